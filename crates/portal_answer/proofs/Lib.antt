@@ -1,4 +1,5 @@
 pub mod Base
 pub mod Assigned
 pub mod OneAnswer
+pub mod Refused
 pub mod Statuses

@@ -8,7 +8,7 @@ use Rattle.portal_answer.proofs.Base.{ext_get_or, Rows, Blocks, project_of, refu
 use Rattle.portal_answer.proofs.Base.{OfFile, file_rows, limit}
 use Rattle.std.specs.Prelude.{AllPairs, Contains, nat_lt}
 use Rattle.std.proofs.lemmas.Bool.{cases_lt}
-use Rattle.spa_rows.specs.Faults.{HasFault, HasNoneBefore, IsFirstFault, number_of}
+use Rattle.spa_rows.specs.Faults.{HasFault, HasNoneBefore, IsFirst, IsFirstFault, number_of}
 use Rattle.spa_rows.specs.declared.faults.InstanceFault.TheVariants as row
 use Rattle.spa_rows.proofs.FirstFault.{same_number}
 use Rattle.spa_model.specs.Pairs.{HasPairFault, HasPairs, number_of_pair_fault, student_in, project_in}
@@ -74,11 +74,13 @@ same_blocks (x ∷ xs) (y ∷ ys) up rise into back =
     let rise_too : Sorted (x ∷ ys) = subst (λ (z : Block). Sorted (z ∷ ys)) first rise in
     let into_too : AreIn (x ∷ xs) (x ∷ ys) = subst (λ (z : Block). AreIn (x ∷ xs) (z ∷ ys)) first into in
     let back_too : AreIn (x ∷ ys) (x ∷ xs) = subst (λ (z : Block). AreIn (z ∷ ys) (x ∷ xs)) first back in
-    let rest : xs ≡ ys = same_blocks xs ys (rest_rises x xs up) (rest_rises y ys rise) (rest_in x xs ys up into_too) (rest_in x ys xs rise_too back_too) in
+    let rest : xs ≡ ys = same_blocks xs ys (rest_rises x xs up) (rest_rises y ys rise) (rest_in x xs ys up into_too)
+    (rest_in x ys xs rise_too back_too) in
     ap (λ (l : List Block). x ∷ l) rest ∙ ap (λ (b : Block). b ∷ ys) (sym first)
 
 all_in : (i : Spa) (m : List (Option ℕ)) (a b : List Block) → AreAllBlocks i m a → AreAllBlocks i m b → AreIn a b
-all_in i m a b of_a of_b x c = of_b.complete x.student x.project x.letter (subst (λ (z : Block). Blocks i m z.student z.project z.letter) c.2 (of_a.sound c.0 x c.1))
+all_in i m a b of_a of_b x c = of_b.complete x.student x.project x.letter
+    (subst (λ (z : Block). Blocks i m z.student z.project z.letter) c.2 (of_a.sound c.0 x c.1))
 
 blocks_one : (i : Spa) (m : List (Option ℕ)) (a b : List Block) → AreAllBlocks i m a → AreAllBlocks i m b → a ≡ b
 blocks_one i m a b of_a of_b = same_blocks a b of_a.sorted of_b.sorted (all_in i m a b of_a of_b) (all_in i m b a of_b of_a)
@@ -103,19 +105,17 @@ matching_one i pairs m n a b = ext_get_or None m n (a.students ∙ sym b.student
 
 -- ---- the first fault is one, of pairs as of rows
 
-module _ {F : Type 0} (number : F → ℕ) (same : (f g : F) → number f ≡ number g → f ≡ g) (Has : F → ℕ → Type 0) (refusal : F → ℕ → Output) where
-  abbrev IsFirst : F → ℕ → Type 0
-  IsFirst f r = Has f r × ((q : ℕ) → Has f q → r ≤ q) × ((e : F) → number e < number f → (q : ℕ) → Has e q → ⊥)
-
-  first_one : (f g : F) (r q : ℕ) → IsFirst f r → IsFirst g q → refusal f r ≡ refusal g q
+module _ {F : Type 0} (number : F → ℕ) (same : (f g : F) → number f ≡ number g → f ≡ g) (Has : F → ℕ → Type 0)
+    (refusal : F → ℕ → Output) where
+  first_one : (f g : F) (r q : ℕ) → IsFirst number Has f r → IsFirst number Has g q → refusal f r ≡ refusal g q
   first_one f g r q a b = elim (cases_lt (number f) (number g)) [
-    | inl less ↦ absurd (b.2 f less r a.0)
+    | inl less ↦ absurd (b.none_before f less r a.here)
     | inr not ↦ elim (cases_lt (number g) (number f)) [
-      | inl less ↦ absurd (a.2 g less q b.0)
+      | inl less ↦ absurd (a.none_before g less q b.here)
       | inr still ↦
           let one : f ≡ g = same f g (omega (arith, not, still)) in
-          let moved : IsFirst g r = subst (λ (e : F). IsFirst e r) one a in
-          let row : r ≡ q = omega (arith, moved.1 q b.0, b.1 r moved.0) in
+          let moved : IsFirst number Has g r = subst (λ (e : F). IsFirst number Has e r) one a in
+          let row : r ≡ q = omega (arith, moved.least q b.here, b.least r moved.here) in
           λ j. refusal (one j) (row j)
     ]
   ]
@@ -138,7 +138,8 @@ told_is_one : (task : Task) (i : Spa) (pairs : List Pair) (t u : Output) → OfP
     → t ≡ u
 told_is_one task i pairs t u a b = elim a [
   | inl bad ↦ elim b [
-    | inl worse ↦ bad.3 ∙ first_one number_of_pair_fault same_pair_fault (HasPairFault i pairs) refused_matching bad.0 worse.0 bad.1 worse.1 (bad.2.here, bad.2.least, bad.2.none_before) (worse.2.here, worse.2.least, worse.2.none_before) ∙ sym worse.3
+    | inl worse ↦ bad.3 ∙ first_one number_of_pair_fault same_pair_fault
+        (HasPairFault i pairs) refused_matching bad.0 worse.0 bad.1 worse.1 bad.2 worse.2 ∙ sym worse.3
     | inr good ↦ absurd (good.1.sound bad.0 bad.1 bad.2.here)
   ]
   | inr good ↦ elim b [
@@ -159,7 +160,8 @@ told_first rows f r a none = none f (omega arith) r a.here
 file_is_one : (task : Task) (f : File) (t u : Output) → OfFile task f t → OfFile task f u → t ≡ u
 file_is_one task f t u a b = elim a [
   | inl bad ↦ elim b [
-    | inl worse ↦ bad.3 ∙ first_one number_of same_number (HasFault (file_rows f)) refused_instance bad.0 worse.0 bad.1 worse.1 (bad.2.here, bad.2.least, bad.2.none_before) (worse.2.here, worse.2.least, worse.2.none_before) ∙ sym worse.3
+    | inl worse ↦ bad.3 ∙ first_one number_of same_number
+        (HasFault (file_rows f)) refused_instance bad.0 worse.0 bad.1 worse.1 bad.2 worse.2 ∙ sym worse.3
     | inr good ↦ absurd (told_first (file_rows f) bad.0 bad.1 bad.2 good.1.faultless)
   ]
   | inr good ↦ elim b [

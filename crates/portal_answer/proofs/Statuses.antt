@@ -28,11 +28,19 @@ tells_status Check i m t h = of_status t _ _ h.2 refl (choice_status (length h.0
 tells_status Solve i m t h = of_status t _ 0 h.2 refl (omega arith)
 
 pairs_status : (task : Task) (i : Spa) (pairs : List Pair) (t : Output) → OfPairs task i pairs t → t.status ≤ 2
-pairs_status task i pairs t h = elim h [ inl bad ↦ of_status t _ 2 bad.3 refl (omega arith) | inr good ↦ tells_status task i good.0 t good.2 ]
+pairs_status task i pairs t h = elim h [
+  | inl bad ↦ of_status t _ 2 bad.3 refl
+      (omega arith)
+  | inr good ↦ tells_status task i good.0 t good.2
+]
 
 read_status : (task : Task) (r : Result File RollFault) (t : Output) → OfRead task r t → t.status ≤ 2
 read_status task (Err fault) t h = of_status t _ 2 h (file_status fault) (omega arith)
-read_status task (Ok f) t h = elim h [ inl bad ↦ of_status t _ 2 bad.3 (instance_status bad.0 bad.1) (omega arith) | inr good ↦ pairs_status task good.0 f.pairs t good.2 ]
+read_status task (Ok f) t h = elim h [
+  | inl bad ↦ of_status t _ 2 bad.3 (instance_status bad.0 bad.1)
+      (omega arith)
+  | inr good ↦ pairs_status task good.0 f.pairs t good.2
+]
 
 longer_status : (task : Task) (b : Bool) (bytes : Text) (t : Output) → IfLonger task b bytes t → t.status ≤ 2
 longer_status task true bytes t h = of_status t _ 2 h refl (omega arith)

@@ -20,7 +20,8 @@ module _ (w v : World) where
 
   outcome : (x : Caller) (ask : AbstractCall) → Leads ask (decision (sight_of w x) ask)
   outcome x ask =
-      let best : (pairs : List (Key × Key)) → v ≡ changed w (Placements pairs) → IsBest (instance w) (matching_of v) → IsBest (instance v) (matching_of v)
+      let best : (pairs : List (Key × Key)) → v ≡ changed w (Placements pairs) → IsBest (instance w) (matching_of v)
+      → IsBest (instance v) (matching_of v)
       = λ pairs e. subst (λ i. IsBest i (matching_of v)) (sym (ap instance e ∙ instance_placed w pairs)) in
       grind (arith, best)
 
@@ -30,7 +31,8 @@ step_outcome w v code ask reply s = outcome w v (caller w code) ask s.left
 -- A STEP THAT PUBLISHES HAS THE BEST RESULT
 pub step_best : (w v : World) (code : Key) (ask : AbstractCall) (reply : Answer) → Good w → is_published w.phase ≡ false
     → Step w code ask reply v → is_published v.phase ≡ true → HasBest v
-step_best w v code ask reply good closed_w s out = record { good = step_good w v code ask reply good s; published = out; best = by_outcome (step_outcome w v code ask reply s) }
+step_best w v code ask reply good closed_w s out =
+    record { good = step_good w v code ask reply good s; published = out; best = by_outcome (step_outcome w v code ask reply s) }
   where
     by_outcome : Outcome w v → IsBest (instance v) (matching_of v)
     by_outcome o = grind (arith, closed_w, out)
@@ -38,7 +40,11 @@ step_best w v code ask reply good closed_w s out = record { good = step_good w v
 -- and what is best stays
 step_shows : (w v : World) (code : Key) (ask : AbstractCall) (reply : Answer) → ShowsBest w → Step w code ask reply v
     → ShowsBest v
-step_shows w v code ask reply g s = record { good = step_good w v code ask reply g.good s; now = now (step_outcome w v code ask reply s); before = before (is_second w.round) refl }
+step_shows w v code ask reply g s = record {
+  good = step_good w v code ask reply g.good s;
+  now = now (step_outcome w v code ask reply s);
+  before = before (is_second w.round) refl;
+}
   where
     now : Outcome w v → is_published v.phase ≡ true → IsBest (instance v) (matching_of v)
     now o out = grind (arith, g.now)

@@ -33,10 +33,12 @@ ranked_now w sound late ranked = subst IsRanked (instance_placed w []) (by_round
     placed = placed_sound w [] sound late ranked
 
     by_round : (r : Round) → w.round ≡ r → IsRanked (instance (changed w (Placements [])))
-    by_round First one = subst (λ u. IsRanked (instance_of u)) (sym (first_plays (changed w (Placements [])) one)) (world_ranked (changed w (Placements [])) placed one refl)
+    by_round First one = subst (λ u. IsRanked (instance_of u)) (sym (first_plays (changed w (Placements [])) one))
+        (world_ranked (changed w (Placements [])) placed one refl)
     by_round Second two =
         subst (λ u. IsRanked (instance_of u)) (sym (second_plays (changed w (Placements [])) two))
-        (subst IsRanked (rows_alone (left_of (changed w (Placements [])))) (world_ranked (alone (left_of (changed w (Placements [])))) (alone_sound (changed w (Placements [])) placed two) refl refl))
+        (subst IsRanked (rows_alone (left_of (changed w (Placements []))))
+        (world_ranked (alone (left_of (changed w (Placements [])))) (alone_sound (changed w (Placements [])) placed two) refl refl))
 
 module _ (w : World) (g : Good w) where
   -- a decision leaves a world
@@ -51,12 +53,17 @@ module _ (w : World) (g : Good w) where
       → (v : World) × (pairs : List (Key × Key)) × (v ≡ changed w (Placements pairs)) × IsBest (instance w) (matching_of v)
   best late ranked =
       let one = best_of (instance w) (ranked_now w g.sound late ranked) in
-      let pairs : List (Key × Key) = pairs_by (student_keys (in_play w)) (project_keys (in_play w)) one.0 in
-      (changed w (Placements pairs), pairs, refl, subst (IsBest (instance w)) (sym (pairs_place w one.0 g.sound one.1.stable.matching)) one.1)
+      let pairs : List (Key × Key) = pairs_by (student_keys (in_play w)) (project_keys (in_play w)) one.0 in (
+        changed w (Placements pairs),
+        pairs,
+        refl,
+        subst (IsBest (instance w)) (sym (pairs_place w one.0 g.sound one.1.stable.matching)) one.1,
+      )
 
   leads : (x : Caller) (ask : AbstractCall) → Leads ask (decision (sight_of w x) ask)
   leads NoCaller ask = (w, refl)
-  leads (StudentCaller s) ask = by_student Leads idle (student_sees w s) (λ list now left none. (changed w (Choices s.row.key list), refl)) ask
+  leads (StudentCaller s) ask = by_student Leads idle (student_sees w s)
+      (λ list now left none. (changed w (Choices s.row.key list), refl)) ask
   leads (LecturerCaller l) ask = by_lecturer Leads idle (lecturer_sees w l) (λ list now none. (changed w (Ranks l.row.key list), refl)) ask
   leads OfficeCaller ask =
       by_office Leads idle (office_sees w)
@@ -84,8 +91,13 @@ told_else v ask e = grind arith
 replied : (w : World) (r : Request) (x : Wish) → Good w → HasReply x
     → (a : Answer) × (v : World) × Answers w r x a v × (a ≢ unavailable) × Good v
 replied w r (Calls ask) g form =
-    let one = step_there w g r.code ask form in
-    (answer (view w r.code) ask, one.0, one.1, told_else (view w r.code) ask, step_good w one.0 r.code ask (answer (view w r.code) ask) g one.1)
+    let one = step_there w g r.code ask form in (
+      answer (view w r.code) ask,
+      one.0,
+      one.1,
+      told_else (view w r.code) ask,
+      step_good w one.0 r.code ask (answer (view w r.code) ask) g one.1,
+    )
 replied w r (NoCall refusal) g other = (refusal, w, (refl, refl), other, g)
 
 -- A RUN WITHOUT A 503

@@ -36,13 +36,21 @@ has_number keys k h = number_known keys k (has_contains keys k h)
 
 module _ (keys : List Key) where
   same_key : (a b : Key) → number_in keys a ≡ number_in keys b → number_in keys b < length keys → a ≡ b
-  same_key a b e low = sym (number_is keys a (subst (λ n. n < length keys) (sym e) low)) ∙ ap (λ n. get_or keys n []) e ∙ number_is keys b low
+  same_key a b e low = sym (number_is keys a (subst (λ n. n < length keys) (sym e) low)) ∙ ap (λ n. get_or keys n []) e
+      ∙ number_is keys b low
 
   -- the numbers stand on a list as the keys do
   pub place_number : (list : List Key) (k : Key) → number_in keys k < length keys
       → place (map (number_in keys) list) (number_in keys k) ≡ number_in list k
   place_number [] k low = refl
-  place_number (c ∷ cs) k low = grind (arith, same_key c k, eqb-true (number_in keys c) (number_in keys k), is_same c k, is_own k, place_number cs k low)
+  place_number (c ∷ cs) k low = grind (
+    arith,
+    same_key c k,
+    eqb-true (number_in keys c) (number_in keys k),
+    is_same c k,
+    is_own k,
+    place_number cs k low,
+  )
 
   pub on_number : (list : List Key) (k : Key) → number_in keys k < length keys → has list k ≡ true
       → IsOn (map (number_in keys) list) (number_in keys k)
@@ -74,7 +82,13 @@ module _ (keys : List Key) where
 -- rows by number
 
 pub no_student : Student
-no_student = record { row = record { key = []; name = []; code = [] }; choice = []; placed = None; earlier_choice = []; earlier_placement = None }
+no_student = record {
+  row = record { key = []; name = []; code = [] };
+  choice = [];
+  placed = None;
+  earlier_choice = [];
+  earlier_placement = None;
+}
 
 pub no_project : ProjectRow
 no_project = record { key = []; lecturer = []; title = []; capacity = 0 }
@@ -102,7 +116,11 @@ module _ (w : World) (sound : Sound w) (one : w.round ≡ First) (published : is
   choice s d h = all_at (λ (x : Student). IsChoice (project_keys w) x.choice) w.students s d chosen h
 
   in_range : (s p : ℕ) → IsAcceptable (instance_of w) s p → s < length w.students
-  in_range s p on = omega (arith, acceptable_in_range (instance_of w) s p on, length-map w.students (λ (x : Student). map (number_in (project_keys w)) x.choice))
+  in_range s p on = omega (
+    arith,
+    acceptable_in_range (instance_of w) s p on,
+    length-map w.students (λ (x : Student). map (number_in (project_keys w)) x.choice),
+  )
 
   pub known_key : (s p : ℕ) → IsAcceptable (instance_of w) s p → p < length (project_keys w)
   known_key s p on = on_roll (project_keys w) w.students chosen s p on
@@ -116,7 +134,8 @@ module _ (w : World) (sound : Sound w) (one : w.round ≡ First) (published : is
 
   pub lecturer_known : (p : ℕ) → p < length w.projects
       → number_in (lecturer_keys w) (get_or w.projects p no_project).lecturer < length (lecturer_keys w)
-  lecturer_known p h = has_number (lecturer_keys w) (get_or w.projects p no_project).lecturer (all_at (λ (q : ProjectRow). has (lecturer_keys w) q.lecturer ≡ true) w.projects p no_project sound.lecturers_known h)
+  lecturer_known p h = has_number (lecturer_keys w) (get_or w.projects p no_project).lecturer
+      (all_at (λ (q : ProjectRow). has (lecturer_keys w) q.lecturer ≡ true) w.projects p no_project sound.lecturers_known h)
 
   -- a student whose list holds a project is an applicant of its lecturer
   applies : (s p : ℕ) (l : Key) → s < length w.students → p < length w.projects
@@ -128,10 +147,13 @@ module _ (w : World) (sound : Sound w) (one : w.round ≡ First) (published : is
       let wants : list_any (λ (q : ProjectRow). has x.choice q.key) (projects_of w l) ≡ true =
       filtered_any (λ (q : ProjectRow). has x.choice q.key) (λ (q : ProjectRow). equals q.lecturer l) w.projects
       ∙ list_any_at (λ (q : ProjectRow). equals q.lecturer l && has x.choice q.key) w.projects p no_project p_in
-      (and_from (equals (get_or w.projects p no_project).lecturer l) (has x.choice (get_or w.projects p no_project).key) (rw own (is_own l)) there) in
+      (and_from (equals (get_or w.projects p no_project).lecturer l) (has x.choice (get_or w.projects p no_project).key)
+      (rw own (is_own l)) there) in
       any_map (equals x.row.key) student_key (applicants_of w l)
-      ∙ filtered_any (λ (y : Student). equals x.row.key y.row.key) (λ (y : Student). list_any (λ (q : ProjectRow). has y.choice q.key) (projects_of w l)) w.students
-      ∙ list_any_at (λ (y : Student). list_any (λ (q : ProjectRow). has y.choice q.key) (projects_of w l) && equals x.row.key y.row.key) w.students s no_student s_in
+      ∙ filtered_any (λ (y : Student). equals x.row.key y.row.key)
+      (λ (y : Student). list_any (λ (q : ProjectRow). has y.choice q.key) (projects_of w l)) w.students
+      ∙ list_any_at (λ (y : Student). list_any (λ (q : ProjectRow). has y.choice q.key) (projects_of w l) && equals x.row.key y.row.key)
+      w.students s no_student s_in
       (and_from (list_any (λ (q : ProjectRow). has x.choice q.key) (projects_of w l)) (equals x.row.key x.row.key) wants (is_own x.row.key))
 
   ranked : (s p : ℕ) → IsAcceptable (instance_of w) s p
@@ -143,25 +165,31 @@ module _ (w : World) (sound : Sound w) (one : w.round ≡ First) (published : is
       let prj : ProjectRow = get_or w.projects p no_project in
       let found = key_of (project_keys w) x.choice p (rw (choices s no_student s_in) at on) in
       let p_key : prj.key ≡ found.0 =
-      sym (get_or-map project_key w.projects p no_project [] p_in) ∙ ap (λ n. get_or (project_keys w) n []) (sym found.2) ∙ number_is (project_keys w) found.0 (subst (λ n. n < length (project_keys w)) (sym found.2) (known_key s p on)) in
+      sym (get_or-map project_key w.projects p no_project [] p_in) ∙ ap (λ n. get_or (project_keys w) n []) (sym found.2)
+      ∙ number_is (project_keys w) found.0 (subst (λ n. n < length (project_keys w)) (sym found.2) (known_key s p on)) in
       let l : ℕ = number_in (lecturer_keys w) prj.lecturer in
       let l_low : l < length (lecturer_keys w) = lecturer_known p p_in in
       let l_in : l < length w.lecturers = omega (arith, l_low, length-map w.lecturers lecturer_key) in
       let row : Lecturer = get_or w.lecturers l no_lecturer in
-      let own : prj.lecturer ≡ row.row.key = sym (number_is (lecturer_keys w) prj.lecturer l_low) ∙ get_or-map lecturer_key w.lecturers l no_lecturer [] l_in in
+      let own : prj.lecturer ≡ row.row.key = sym (number_is (lecturer_keys w) prj.lecturer l_low)
+      ∙ get_or-map lecturer_key w.lecturers l no_lecturer [] l_in in
       let there : has (unwrap_or row.ranking []) x.row.key ≡ true =
       on_ranking (applicants_of w row.row.key) x.row.key row.ranking
-      (all_at (λ (y : Lecturer). IfSome y.ranking (IsRanking (map student_key (applicants_of w y.row.key)))) w.lecturers l no_lecturer sound.rankings l_in)
-      (all_at (λ (y : Lecturer). (not (is_empty (applicants_of w y.row.key)) && is_none y.ranking) ≡ false) w.lecturers l no_lecturer (sound.all_ranked published) l_in)
+      (all_at (λ (y : Lecturer). IfSome y.ranking (IsRanking (map student_key (applicants_of w y.row.key)))) w.lecturers l no_lecturer
+      sound.rankings l_in)
+      (all_at (λ (y : Lecturer). (not (is_empty (applicants_of w y.row.key)) && is_none y.ranking) ≡ false) w.lecturers l no_lecturer
+      (sound.all_ranked published) l_in)
       (applies s p row.row.key s_in p_in own (subst (λ k. has x.choice k ≡ true) (sym p_key) found.1)) in
       let s_key : get_or (student_keys w) s [] ≡ x.row.key = get_or-map student_key w.students s no_student [] s_in in
       let s_low : s < length (student_keys w) = omega (arith, length-map w.students student_key) in
-      let s_number : number_in (student_keys w) x.row.key ≡ s = ap (number_in (student_keys w)) (sym s_key) ∙ number_back (student_keys w) s sound.students_rise s_low in
+      let s_number : number_in (student_keys w) x.row.key ≡ s = ap (number_in (student_keys w)) (sym s_key)
+      ∙ number_back (student_keys w) s sound.students_rise s_low in
       let ranking : ranking_of (instance_of w) l ≡ map (number_in (student_keys w)) (unwrap_or row.ranking []) =
       get_or-map (λ (y : Lecturer). map (number_in (student_keys w)) (unwrap_or y.ranking [])) w.lecturers l no_lecturer [] l_in in
       let stands : IsOn (map (number_in (student_keys w)) (unwrap_or row.ranking [])) s =
       subst (IsOn (map (number_in (student_keys w)) (unwrap_or row.ranking []))) s_number
-      (on_number (student_keys w) (unwrap_or row.ranking []) x.row.key (subst (λ n. n < length (student_keys w)) (sym s_number) s_low) there) in
+      (on_number (student_keys w) (unwrap_or row.ranking []) x.row.key
+      (subst (λ n. n < length (student_keys w)) (sym s_number) s_low) there) in
       subst (λ n. IsOn (ranking_of (instance_of w) n) s) (sym (lecturer_at p p_in)) (subst (λ list. IsOn list s) (sym ranking) stands)
 
   -- the instance of a sound world in published is ranked
@@ -173,7 +201,12 @@ module _ (w : World) (sound : Sound w) (one : w.round ≡ First) (published : is
     choices_distinct = distinct w.students chosen;
   } where
     offered : (p : ℕ) → p < length w.projects → lecturer_of (instance_of w) p < length (instance_of w).rankings
-    offered p h = rw (lecturer_at p h) (omega (arith, lecturer_known p h, length-map w.lecturers lecturer_key, length-map w.lecturers (λ (y : Lecturer). map (number_in (student_keys w)) (unwrap_or y.ranking []))))
+    offered p h = rw (lecturer_at p h) (omega (
+      arith,
+      lecturer_known p h,
+      length-map w.lecturers lecturer_key,
+      length-map w.lecturers (λ (y : Lecturer). map (number_in (student_keys w)) (unwrap_or y.ranking [])),
+    ))
 
     distinct : (ss : List Student) → AllByRecursion (λ x. IsChoice (project_keys w) x.choice) ss → (s : ℕ)
         → IsDistinct (get_or (map (λ (x : Student). map (number_in (project_keys w)) x.choice) ss) s [])
@@ -192,12 +225,15 @@ pub record IsStudentNumber (w : World) (s : ℕ) (x : Student) : Type 0 where
   pub is : get_or w.students s x ≡ x
 
 -- from numbers to keys
-module _ (w : World) (sound : Sound w) (one : w.round ≡ First) (published : is_published w.phase ≡ true) (s : ℕ) (x : Student) (is_x : IsStudentNumber w s x) where
+module _ (w : World) (sound : Sound w) (one : w.round ≡ First) (published : is_published w.phase ≡ true) (s : ℕ) (x : Student)
+    (is_x : IsStudentNumber w s x) where
   x_choices : choices_of (instance_of w) s ≡ map (number_in (project_keys w)) x.choice
-  x_choices = subst (λ (y : Student). choices_of (instance_of w) s ≡ map (number_in (project_keys w)) y.choice) is_x.is (choices w sound one published s x is_x.in_range)
+  x_choices = subst (λ (y : Student). choices_of (instance_of w) s ≡ map (number_in (project_keys w)) y.choice) is_x.is
+      (choices w sound one published s x is_x.in_range)
 
   pub x_given : project_of (places_of w) s ≡ option_map (number_in (project_keys w)) x.placed
-  x_given = subst (λ (y : Student). project_of (places_of w) s ≡ option_map (number_in (project_keys w)) y.placed) is_x.is (given w sound one published s x is_x.in_range)
+  x_given = subst (λ (y : Student). project_of (places_of w) s ≡ option_map (number_in (project_keys w)) y.placed) is_x.is
+      (given w sound one published s x is_x.in_range)
 
   x_no_worse : (p : Key) → number_in (project_keys w) p < length (project_keys w) → has x.choice p ≡ true
       → (o : Option Key) → ((q : Key) → o ≡ Some q → IsAcceptable (instance_of w) s (number_in (project_keys w) q))
@@ -207,14 +243,19 @@ module _ (w : World) (sound : Sound w) (one : w.round ≡ First) (published : is
   x_no_worse p low there (Some q) on good =
       let keys : List Key = project_keys w in
       let q_on : IsOn (map (number_in (project_keys w)) x.choice) (number_in (project_keys w) q) = rw x_choices at (on q refl) in
-      let q_low : number_in (project_keys w) q < length (project_keys w) = known_key w sound one published s (number_in (project_keys w) q) (on q refl) in
-      let at_p : place (map (number_in (project_keys w)) x.choice) (number_in (project_keys w) p) ≡ number_in x.choice p = place_number (project_keys w) x.choice p low in
-      let at_q : place (map (number_in (project_keys w)) x.choice) (number_in (project_keys w) q) ≡ number_in x.choice q = place_number (project_keys w) x.choice q q_low in (
+      let q_low : number_in (project_keys w) q < length (project_keys w) =
+      known_key w sound one published s (number_in (project_keys w) q) (on q refl) in
+      let at_p : place (map (number_in (project_keys w)) x.choice) (number_in (project_keys w) p)
+      ≡ number_in x.choice p = place_number (project_keys w) x.choice p low in
+      let at_q : place (map (number_in (project_keys w)) x.choice) (number_in (project_keys w) q)
+      ≡ number_in x.choice q = place_number (project_keys w) x.choice q q_low in (
         q,
         refl,
         number_on (project_keys w) x.choice q q_low q_on,
         elim good [
-          | inl same ↦ let level : place (map (number_in (project_keys w)) x.choice) (number_in (project_keys w) q) ≡ place (map (number_in (project_keys w)) x.choice) (number_in (project_keys w) p) = ap (place (map (number_in (project_keys w)) x.choice)) same in
+          | inl same ↦ let level : place (map (number_in (project_keys w)) x.choice) (number_in (project_keys w) q)
+              ≡ place (map (number_in (project_keys w)) x.choice) (number_in (project_keys w) p) =
+              ap (place (map (number_in (project_keys w)) x.choice)) same in
               omega arith
           | inr before ↦ let less : place (map (number_in (project_keys w)) x.choice) (number_in (project_keys w) q) < place (map (number_in (project_keys w)) x.choice) (number_in (project_keys w) p) = (rw x_choices at before).0 in
               omega arith
@@ -234,7 +275,9 @@ rank_known : (w : World) → Sound w → (l : ℕ) (d : Lecturer) → l < length
     → has (unwrap_or (get_or w.lecturers l d).ranking []) k ≡ true
     → number_in (student_keys w) k < length (student_keys w)
 rank_known w sound l d l_in k there =
-    has_number (student_keys w) k (by_ranking (get_or w.lecturers l d).ranking (all_at (λ (y : Lecturer). IfSome y.ranking (IsRanking (map student_key (applicants_of w y.row.key)))) w.lecturers l d sound.rankings l_in) there)
+    has_number (student_keys w) k (by_ranking (get_or w.lecturers l d).ranking
+    (all_at (λ (y : Lecturer). IfSome y.ranking (IsRanking (map student_key (applicants_of w y.row.key)))) w.lecturers l d
+    sound.rankings l_in) there)
   where
     by_ranking : (o : Option (List Key))
         → IfSome o (IsRanking (map student_key (applicants_of w (get_or w.lecturers l d).row.key)))
@@ -243,7 +286,8 @@ rank_known w sound l d l_in k there =
     by_ranking (Some r) ranks h =
         let at = has_contains r k h in
         let apps : List Key = map student_key (applicants_of w (get_or w.lecturers l d).row.key) in
-        kept_has (λ (s : Student). list_any (λ (q : ProjectRow). has s.choice q.key) (projects_of w (get_or w.lecturers l d).row.key)) w.students k
+        kept_has (λ (s : Student). list_any (λ (q : ProjectRow). has s.choice q.key) (projects_of w (get_or w.lecturers l d).row.key))
+        w.students k
         (subst (λ x. has apps x ≡ true) at.2 (all_at (λ x. has apps x ≡ true) r at.0 k ranks.only at.1))
 
 -- rankings of keys that order alike do so by number
@@ -254,16 +298,21 @@ order_numbers keys xs ys low alike a b on_a on_b before =
     let key_b = key_of keys ys b on_b in
     let low_a : number_in keys key_a.0 < length keys = low key_a.0 key_a.1 in
     let low_b : number_in keys key_b.0 < length keys = low key_b.0 key_b.1 in
-    let x_a : place (map (number_in keys) xs) a ≡ number_in xs key_a.0 = ap (place (map (number_in keys) xs)) (sym key_a.2) ∙ place_number keys xs key_a.0 low_a in
-    let x_b : place (map (number_in keys) xs) b ≡ number_in xs key_b.0 = ap (place (map (number_in keys) xs)) (sym key_b.2) ∙ place_number keys xs key_b.0 low_b in
-    let y_a : place (map (number_in keys) ys) a ≡ number_in ys key_a.0 = ap (place (map (number_in keys) ys)) (sym key_a.2) ∙ place_number keys ys key_a.0 low_a in
-    let y_b : place (map (number_in keys) ys) b ≡ number_in ys key_b.0 = ap (place (map (number_in keys) ys)) (sym key_b.2) ∙ place_number keys ys key_b.0 low_b in
+    let x_a : place (map (number_in keys) xs) a ≡ number_in xs key_a.0 = ap (place (map (number_in keys) xs)) (sym key_a.2)
+    ∙ place_number keys xs key_a.0 low_a in
+    let x_b : place (map (number_in keys) xs) b ≡ number_in xs key_b.0 = ap (place (map (number_in keys) xs)) (sym key_b.2)
+    ∙ place_number keys xs key_b.0 low_b in
+    let y_a : place (map (number_in keys) ys) a ≡ number_in ys key_a.0 = ap (place (map (number_in keys) ys)) (sym key_a.2)
+    ∙ place_number keys ys key_a.0 low_a in
+    let y_b : place (map (number_in keys) ys) b ≡ number_in ys key_b.0 = ap (place (map (number_in keys) ys)) (sym key_b.2)
+    ∙ place_number keys ys key_b.0 low_b in
     let b_there : has xs key_b.0 ≡ true = number_on keys xs key_b.0 low_b (subst (IsOn (map (number_in keys) xs)) (sym key_b.2) before.1) in
     let after = alike key_a.0 key_b.0 key_a.1 key_b.1 (b_there, omega (arith, before.0, x_a, x_b)) in
     (omega (arith, after.1, y_a, y_b), on_b)
 
 -- where those whose lists may differ by key may do so by number
-module _ (w v : World) (good : Sound v) (May : Key → Type 0) (ByNumber : ℕ → Type 0) (differ : DifferInLists w v May) (may : (t : ℕ) → t < length w.students → May (get_or (student_keys w) t []) → ByNumber t) where
+module _ (w v : World) (good : Sound v) (May : Key → Type 0) (ByNumber : ℕ → Type 0) (differ : DifferInLists w v May)
+    (may : (t : ℕ) → t < length w.students → May (get_or (student_keys w) t []) → ByNumber t) where
   count_students : length v.students ≡ length w.students
   count_students = AllZip-long (ListAlike May) w.students v.students differ.students
 
@@ -281,9 +330,12 @@ module _ (w v : World) (good : Sound v) (May : Key → Type 0) (ByNumber : ℕ �
   pub differ_by_number : instances.DifferInLists (instance_of w) (instance_of v) ByNumber
   differ_by_number = record {
     students = length-map v.students _ ∙ count_students ∙ sym (length-map w.students _);
-    lecturers = λ i. map (λ (p : ProjectRow). number_in (zip_same RankAlike lecturer_key (λ x y r. ap (λ row. row.key) r.0) w.lecturers v.lecturers differ.lecturers i) p.lecturer) (differ.projects i);
+    lecturers = λ i. map (λ (p : ProjectRow). number_in
+        (zip_same RankAlike lecturer_key (λ x y r. ap (λ row. row.key) r.0) w.lecturers v.lecturers differ.lecturers i) p.lecturer)
+        (differ.projects i);
     capacities = ap (map (λ (p : ProjectRow). p.capacity)) differ.projects;
-    limits = zip_same RankAlike (λ (l : Lecturer). l.row.capacity) (λ x y r. ap (λ row. row.capacity) r.0) w.lecturers v.lecturers differ.lecturers;
+    limits = zip_same RankAlike (λ (l : Lecturer). l.row.capacity)
+        (λ x y r. ap (λ row. row.capacity) r.0) w.lecturers v.lecturers differ.lecturers;
     others = others;
     orders = orders;
   } where
@@ -291,12 +343,15 @@ module _ (w v : World) (good : Sound v) (May : Key → Type 0) (ByNumber : ℕ �
     others t other = elim (cases_lt t (length w.students)) [
       | inl t_in ↦
           let alike = AllZip-get_or (ListAlike May) w.students v.students t no_student no_student differ.students t_in in
-          let t_key : get_or (student_keys w) t [] ≡ (get_or w.students t no_student).row.key = get_or-map student_key w.students t no_student [] t_in in
+          let t_key : get_or (student_keys w) t []
+          ≡ (get_or w.students t no_student).row.key = get_or-map student_key w.students t no_student [] t_in in
           choices_in v t (omega (arith, count_students))
           ∙ (λ i. map (number_in (map project_key (differ.projects i))) (alike.1 (λ m. other (may t t_in (subst May (sym t_key) m))) i))
           ∙ sym (choices_in w t t_in)
-      | inr past ↦ get_or_past (instance_of v).choices t [] (omega (arith, count_students, length-map v.students (λ (y : Student). map (number_in (project_keys v)) y.choice)))
-          ∙ sym (get_or_past (instance_of w).choices t [] (omega (arith, length-map w.students (λ (y : Student). map (number_in (project_keys w)) y.choice))))
+      | inr past ↦ get_or_past (instance_of v).choices t []
+          (omega (arith, count_students, length-map v.students (λ (y : Student). map (number_in (project_keys v)) y.choice)))
+          ∙ sym (get_or_past (instance_of w).choices t []
+          (omega (arith, length-map w.students (λ (y : Student). map (number_in (project_keys w)) y.choice))))
     ]
 
     orders : (l : ℕ) → instances.OrderAlike (ranking_of (instance_of w) l) (ranking_of (instance_of v) l)
@@ -304,13 +359,25 @@ module _ (w v : World) (good : Sound v) (May : Key → Type 0) (ByNumber : ℕ �
       | inl l_in ↦
           let alike = AllZip-get_or RankAlike w.lecturers v.lecturers l no_lecturer no_lecturer differ.lecturers l_in in
           let v_in : l < length v.lecturers = omega (arith, count_lecturers) in
-          let by_keys = order_numbers (student_keys v) (unwrap_or (get_or w.lecturers l no_lecturer).ranking []) (unwrap_or (get_or v.lecturers l no_lecturer).ranking []) (rank_known v good l no_lecturer v_in) alike.1 in
-          let first : map (number_in (student_keys v)) (unwrap_or (get_or w.lecturers l no_lecturer).ranking []) ≡ ranking_of (instance_of w) l =
-          ap (λ keys. map (number_in keys) (unwrap_or (get_or w.lecturers l no_lecturer).ranking [])) (zip_same (ListAlike May) student_key (λ x y r. ap (λ row. row.key) r.0) w.students v.students differ.students) ∙ sym (ranking_in w l l_in) in
+          let by_keys = order_numbers (student_keys v) (unwrap_or (get_or w.lecturers l no_lecturer).ranking [])
+          (unwrap_or (get_or v.lecturers l no_lecturer).ranking []) (rank_known v good l no_lecturer v_in) alike.1 in
+          let first : map (number_in (student_keys v)) (unwrap_or (get_or w.lecturers l no_lecturer).ranking [])
+          ≡ ranking_of (instance_of w) l =
+          ap (λ keys. map (number_in keys) (unwrap_or (get_or w.lecturers l no_lecturer).ranking []))
+          (zip_same (ListAlike May) student_key (λ x y r. ap (λ row. row.key) r.0) w.students v.students differ.students)
+          ∙ sym (ranking_in w l l_in) in
           subst (λ xs. instances.OrderAlike xs (ranking_of (instance_of v) l)) first
-          (subst (instances.OrderAlike (map (number_in (student_keys v)) (unwrap_or (get_or w.lecturers l no_lecturer).ranking []))) (sym (ranking_in v l v_in)) by_keys)
+          (subst (instances.OrderAlike (map (number_in (student_keys v)) (unwrap_or (get_or w.lecturers l no_lecturer).ranking [])))
+          (sym (ranking_in v l v_in)) by_keys)
       | inr past ↦
-          let none : ranking_of (instance_of v) l ≡ [] = get_or_past (instance_of v).rankings l [] (omega (arith, count_lecturers, length-map v.lecturers (λ (y : Lecturer). map (number_in (student_keys v)) (unwrap_or y.ranking [])))) in
+          let none : ranking_of (instance_of v) l ≡ [] =
+          get_or_past (instance_of v).rankings l []
+          (omega (
+            arith,
+            count_lecturers,
+            length-map v.lecturers
+                (λ (y : Lecturer). map (number_in (student_keys v)) (unwrap_or y.ranking [])),
+          )) in
           λ a b on_a on_b before. absurd (let off : IsOn [] a = rw none at on_a in omega (arith, off))
     ]
 
@@ -337,18 +404,24 @@ pub record IsStableRound (w : World) : Type 0 where
 -- from what is as good by number to what is no worse by key
 pub no_worse_by_number : (w : World) (s : ℕ) (x : Student) → IsBestRound w → IsStudentNumber w s x → (p : Key)
     → has x.choice p ≡ true
-    → (IsAcceptable (instance_of w) s (number_in (project_keys w) p) → IsAsGood (instance_of w) s (project_of (places_of w) s) (Some (number_in (project_keys w) p)))
+    → (IsAcceptable (instance_of w) s (number_in (project_keys w) p)
+    → IsAsGood (instance_of w) s (project_of (places_of w) s) (Some (number_in (project_keys w) p)))
     → (q : Key) × (x.placed ≡ Some q) × (has x.choice q ≡ true) × (number_in x.choice q ≤ number_in x.choice p)
 no_worse_by_number w s x one is_x p there good =
     x_no_worse w one.sound one.one one.published s x is_x p low there x.placed
-    (λ q e. one.best.stable.matching.acceptable s (number_in (project_keys w) q) (x_given w one.sound one.one one.published s x is_x ∙ ap (option_map (number_in (project_keys w))) e))
-    (subst (λ o. IsAsGood (instance_of w) s o (Some (number_in (project_keys w) p))) (x_given w one.sound one.one one.published s x is_x) (good (rw (x_choices w one.sound one.one one.published s x is_x) (on_number (project_keys w) x.choice p low there))))
+    (λ q e. one.best.stable.matching.acceptable s (number_in (project_keys w) q)
+    (x_given w one.sound one.one one.published s x is_x ∙ ap (option_map (number_in (project_keys w))) e))
+    (subst (λ o. IsAsGood (instance_of w) s o (Some (number_in (project_keys w) p))) (x_given w one.sound one.one one.published s x is_x)
+    (good (rw (x_choices w one.sound one.one one.published s x is_x) (on_number (project_keys w) x.choice p low there))))
   where
     low : number_in (project_keys w) p < length (project_keys w)
     low =
         let at = has_contains x.choice p there in
-        let x_choice : IsChoice (project_keys w) x.choice = subst (λ (z : Student). IsChoice (project_keys w) z.choice) is_x.is (choice w one.sound one.one one.published s x is_x.in_range) in
-        has_number (project_keys w) p (subst (λ k. has (project_keys w) k ≡ true) at.2 (all_at (λ k. has (project_keys w) k ≡ true) x.choice at.0 p x_choice.known at.1))
+        let x_choice : IsChoice (project_keys w) x.choice =
+        subst (λ (z : Student). IsChoice (project_keys w) z.choice) is_x.is
+        (choice w one.sound one.one one.published s x is_x.in_range) in
+        has_number (project_keys w) p (subst (λ k. has (project_keys w) k ≡ true) at.2
+        (all_at (λ k. has (project_keys w) k ≡ true) x.choice at.0 p x_choice.known at.1))
 
 -- from a round to the world that it is played in
 
@@ -357,15 +430,18 @@ module _ (ps : List ProjectRow) (ss : List Student) where
       → AllZip RankAlike (lecturers_in r ls ps ss) (lecturers_in r ks ps ss)
   staff_zip First ls ks z = z
   staff_zip Second ls ks z =
-      zip_kept RankAlike (λ l. nat_lt 0 l.row.capacity) (λ l k r. ap (λ row. nat_lt 0 row.capacity) r.0) (map (lowered_lecturer ps ss) ls) (map (lowered_lecturer ps ss) ks)
-      (zip_mapped RankAlike (lowered_lecturer ps ss) (lowered_lecturer ps ss) (λ l k r. ((λ i. record (r.0 i) { capacity = (r.0 i).capacity - given_with ps ss (r.0 i).key }), r.1)) ls ks z)
+      zip_kept RankAlike (λ l. nat_lt 0 l.row.capacity) (λ l k r. ap (λ row. nat_lt 0 row.capacity) r.0) (map (lowered_lecturer ps ss) ls)
+      (map (lowered_lecturer ps ss) ks)
+      (zip_mapped RankAlike (lowered_lecturer ps ss) (lowered_lecturer ps ss)
+      (λ l k r. ((λ i. record (r.0 i) { capacity = (r.0 i).capacity - given_with ps ss (r.0 i).key }), r.1)) ls ks z)
 
   offers_same : (r : Round) (ls ks : List Lecturer) → AllZip RankAlike ls ks
       → projects_in r ks ps ss ≡ projects_in r ls ps ss
   offers_same First ls ks z = refl
   offers_same Second ls ks z =
       let keys : map lecturer_key (lecturers_left ks ps ss) ≡ map lecturer_key (lecturers_left ls ps ss) =
-      zip_same RankAlike lecturer_key (λ l k r. ap (λ row. row.key) r.0) (lecturers_left ls ps ss) (lecturers_left ks ps ss) (staff_zip Second ls ks z) in
+      zip_same RankAlike lecturer_key (λ l k r. ap (λ row. row.key) r.0) (lecturers_left ls ps ss) (lecturers_left ks ps ss)
+      (staff_zip Second ls ks z) in
       λ i. filter (λ p. nat_lt 0 p.capacity && has (keys i) p.lecturer) (map (lowered_project ss) ps)
 
 -- two rounds that differ in some lists are so when each stands alone
@@ -377,10 +453,16 @@ module _ (w v : World) (May : Key → Type 0) (differ : DifferInLists w v May) w
   differ_alone = record {
     round = refl;
     lecturers = zip_mapped RankAlike alone_lecturer alone_lecturer (λ l k r. r) (in_play w).lecturers (in_play v).lecturers
-        (subst (AllZip RankAlike (in_play w).lecturers) (sym ((λ i. lecturers_in (differ.round i) v.lecturers (differ.projects i) v.students) ∙ zip_lecturers (ListAlike May) placed_alike w.students v.students differ.students w.round v.lecturers w.projects)) (staff_zip w.projects w.students w.round w.lecturers v.lecturers differ.lecturers));
-    projects = (λ i. projects_in (differ.round i) v.lecturers (differ.projects i) v.students) ∙ zip_projects (ListAlike May) placed_alike w.students v.students differ.students w.round v.lecturers w.projects ∙ offers_same w.projects w.students w.round w.lecturers v.lecturers differ.lecturers;
+        (subst (AllZip RankAlike (in_play w).lecturers)
+        (sym ((λ i. lecturers_in (differ.round i) v.lecturers (differ.projects i) v.students)
+        ∙ zip_lecturers (ListAlike May) placed_alike w.students v.students differ.students w.round v.lecturers w.projects))
+        (staff_zip w.projects w.students w.round w.lecturers v.lecturers differ.lecturers));
+    projects = (λ i. projects_in (differ.round i) v.lecturers (differ.projects i) v.students)
+        ∙ zip_projects (ListAlike May) placed_alike w.students v.students differ.students w.round v.lecturers w.projects
+        ∙ offers_same w.projects w.students w.round w.lecturers v.lecturers differ.lecturers;
     students = zip_mapped (ListAlike May) alone_student alone_student (λ x y r. (r.0, r.1, refl)) (in_play w).students (in_play v).students
-        (subst (λ r. AllZip (ListAlike May) (students_in w.round w.students) (students_in r v.students)) (sym differ.round) (zip_in (ListAlike May) placed_alike w.round w.students v.students differ.students));
+        (subst (λ r. AllZip (ListAlike May) (students_in w.round w.students) (students_in r v.students)) (sym differ.round)
+        (zip_in (ListAlike May) placed_alike w.round w.students v.students differ.students));
   }
 
 pub best_alone : (w : World) → HasBest w → IsBestRound (alone (in_play w))
@@ -388,7 +470,8 @@ best_alone w h = record {
   sound = (played_alone w h.good).0.sound;
   one = refl;
   published = h.published;
-  best = subst (λ i. IsBest i (places_of (alone (in_play w)))) (sym (rows_alone (in_play w))) (subst (IsBest (instance w)) (sym (places_alone (in_play w))) h.best);
+  best = subst (λ i. IsBest i (places_of (alone (in_play w)))) (sym (rows_alone (in_play w)))
+      (subst (IsBest (instance w)) (sym (places_alone (in_play w))) h.best);
 }
 
 pub stable_alone : (v : World) → Good v → is_published v.phase ≡ true → IsStableRound (alone (in_play v))

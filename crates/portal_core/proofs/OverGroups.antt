@@ -38,11 +38,13 @@ either_sizes a b c [] all = omega arith
 either_sizes a b c (x ∷ xs) all = grind (arith, all.0, either_sizes a b c xs all.1)
 
 shown_counts : (t : Option Key → Bool) (phase : Phase) → t None ≡ false → (ss : List Student)
-    → count_by (λ s. t (shown_placement phase s)) ss ≤ count_by (λ (s : Student). t s.earlier_placement) ss + count_by (λ (s : Student). t s.placed) ss
+    → count_by (λ s. t (shown_placement phase s)) ss ≤ count_by (λ (s : Student). t s.earlier_placement) ss + count_by
+    (λ (s : Student). t s.placed) ss
 shown_counts t phase off ss =
     omega (
       arith,
-      either_sizes (λ s. t (shown_placement phase s)) (λ (s : Student). t s.earlier_placement) (λ (s : Student). t s.placed) ss (each_one _ (λ s on. grind (arith, off)) ss),
+      either_sizes (λ s. t (shown_placement phase s)) (λ (s : Student). t s.earlier_placement) (λ (s : Student). t s.placed) ss
+          (each_one _ (λ s on. grind (arith, off)) ss),
       length-filter (λ s. t (shown_placement phase s)) ss,
       length-filter (λ (s : Student). t s.earlier_placement) ss,
       length-filter (λ (s : Student). t s.placed) ss,
@@ -82,24 +84,33 @@ module _ (u : World) (good : Good u) (second : is_second u.round ≡ true) where
   second_known = by_phase (is_published u.phase) refl
     where
       by_phase : (out : Bool) → is_published u.phase ≡ out
-          → AllByRecursion (λ (s : Student). is_left s ≡ true → is_published u.phase ≡ true → (q : Key) → s.placed ≡ Some q → number_in (project_keys u) q < length (project_keys u)) u.students
+          → AllByRecursion (λ (s : Student). is_left s ≡ true → is_published u.phase ≡ true → (q : Key) → s.placed ≡ Some q
+          → number_in (project_keys u) q < length (project_keys u)) u.students
       by_phase false e = each_one _ (λ s left out. let no : true ≡ false = sym out ∙ e in cc) u.students
       by_phase true e =
-          all_weaker _ _ (λ s h left out q shows. has_number (project_keys u) q (plays_known u q two (number_has (project_keys (in_play u)) q (h left q shows)))) u.students
-          (unfiltered (λ (s : Student). (q : Key) → s.placed ≡ Some q → number_in (project_keys (in_play u)) q < length (project_keys (in_play u))) is_left u.students
-          (subst (λ r. AllByRecursion (λ (s : Student). (q : Key) → s.placed ≡ Some q → number_in (project_keys (in_play u)) q < length (project_keys (in_play u))) (students_in r u.students)) two (known_in u good.sound (good.stable e).matching)))
+          all_weaker _ _ (λ s h left out q shows. has_number (project_keys u) q
+          (plays_known u q two (number_has (project_keys (in_play u)) q (h left q shows)))) u.students
+          (unfiltered (λ (s : Student). (q : Key) → s.placed ≡ Some q
+          → number_in (project_keys (in_play u)) q < length (project_keys (in_play u))) is_left u.students
+          (subst (λ r. AllByRecursion (λ (s : Student). (q : Key) → s.placed ≡ Some q
+          → number_in (project_keys (in_play u)) q < length (project_keys (in_play u))) (students_in r u.students)) two
+          (known_in u good.sound (good.stable e).matching)))
 
-  both_known : AllByRecursion (λ (s : Student). (q : Key) → shown_placement u.phase s ≡ Some q → number_in (project_keys u) q < length (project_keys u)) u.students
+  both_known : AllByRecursion (λ (s : Student). (q : Key) → shown_placement u.phase s ≡ Some q
+      → number_in (project_keys u) q < length (project_keys u)) u.students
   both_known =
       all_weaker _ _ (λ s h q shows. here (is_published u.phase) refl s.earlier_placement s.placed h.0 h.1 q shows) u.students
       (all_both _ _ u.students
-      (all_unmap (λ (s : Student). (q : Key) → s.placed ≡ Some q → number_in (project_keys u) q < length (project_keys u)) first_placed u.students (placed_known (first u) (good.before second).sound refl refl ((good.before second).stable refl)))
+      (all_unmap (λ (s : Student). (q : Key) → s.placed ≡ Some q → number_in (project_keys u) q < length (project_keys u)) first_placed
+      u.students (placed_known (first u) (good.before second).sound refl refl ((good.before second).stable refl)))
       second_known)
     where
       here : (out : Bool) → is_published u.phase ≡ out → (o p : Option Key)
           → ((q : Key) → o ≡ Some q → number_in (project_keys u) q < length (project_keys u))
-          → (is_none o ≡ true → is_published u.phase ≡ true → (q : Key) → p ≡ Some q → number_in (project_keys u) q < length (project_keys u))
-          → (q : Key) → shown_placement u.phase (record no_student { earlier_placement = o; placed = p }) ≡ Some q → number_in (project_keys u) q < length (project_keys u)
+          → (is_none o ≡ true → is_published u.phase ≡ true → (q : Key) → p ≡ Some q
+          → number_in (project_keys u) q < length (project_keys u))
+          → (q : Key) → shown_placement u.phase (record no_student { earlier_placement = o; placed = p }) ≡ Some q
+          → number_in (project_keys u) q < length (project_keys u)
       here out e (Some z) p one two' q shows = one q shows
       here true e None p one two' q shows = two' refl e q (rw e at shows)
       here false e None p one two' q shows = let none : None ≡ Some q = rw e at shows in absurd (cc)
@@ -113,7 +124,8 @@ module _ (u : World) (good : Good u) (second : is_second u.round ≡ true) where
       | inr past ↦ omega (arith, none_at (first u) sound refl refl (shown_placement u.phase) u.students both_known k past)
       | inl k_in ↦
           let row : ProjectRow = get_or u.projects k no_project in
-          let fits = all_at (λ (p : ProjectRow). given_to u.students p.key + placed_to u.students p.key ≤ p.capacity) u.projects k no_project kept.projects k_in in
+          let fits = all_at (λ (p : ProjectRow). given_to u.students p.key + placed_to u.students p.key ≤ p.capacity) u.projects k
+          no_project kept.projects k_in in
           omega (
             arith,
             few_at (first u) sound refl refl (shown_placement u.phase) u.students both_known k k_in,
@@ -123,7 +135,11 @@ module _ (u : World) (good : Good u) (second : is_second u.round ≡ true) where
           )
     ];
     lecturers = λ h. elim (cases_lt h (length u.lecturers)) [
-      | inr past ↦ omega (arith, none_with (first u) sound refl refl (shown_placement u.phase) u.students both_known h (omega (arith, past, length-map u.lecturers first_published)))
+      | inr past ↦ omega (
+        arith,
+        none_with (first u) sound refl refl (shown_placement u.phase) u.students both_known h
+            (omega (arith, past, length-map u.lecturers first_published)),
+      )
       | inl h_in ↦ with_lecturer h h_in
     ];
   } where
@@ -137,12 +153,22 @@ module _ (u : World) (good : Good u) (second : is_second u.round ≡ true) where
         → at_lecturer (instance_of (first u)) (both_places u) h ≤ limit_of (instance_of (first u)) h
     with_lecturer h h_in =
         let h_first : h < length (first u).lecturers = omega (arith, h_in, length-map u.lecturers first_published) in
-        let row : get_or (first u).lecturers h no_lecturer ≡ first_published (get_or u.lecturers h no_lecturer) = get_or-map first_published u.lecturers h no_lecturer no_lecturer h_in in
-        let fits = all_at (λ (l : Lecturer). given_with u.projects u.students l.row.key + placed_with u.projects u.students l.row.key ≤ l.row.capacity) u.lecturers h no_lecturer kept.lecturers h_in in
-        let few : at_lecturer (instance_of (first u)) (both_places u) h ≤ count_with (shown_placement u.phase) u.projects u.students (get_or u.lecturers h no_lecturer).row.key
-        = subst (λ (l : Lecturer). at_lecturer (instance_of (first u)) (both_places u) h ≤ count_with (shown_placement u.phase) u.projects u.students l.row.key) row (few_with (first u) sound refl refl (shown_placement u.phase) u.students both_known h h_first) in
-        let counts = shown_counts (λ o. list_any (λ (p : ProjectRow). equals p.lecturer (get_or u.lecturers h no_lecturer).row.key && is_at p.key o) u.projects) u.phase (given_none u.projects (get_or u.lecturers h no_lecturer).row.key) u.students in
-        let top : limit_of (instance_of (first u)) h ≡ (get_or u.lecturers h no_lecturer).row.capacity = get_or-map (λ (l : Lecturer). l.row.capacity) (first u).lecturers h no_lecturer 0 h_first ∙ ap (λ (l : Lecturer). l.row.capacity) row in
+        let row : get_or (first u).lecturers h no_lecturer
+        ≡ first_published (get_or u.lecturers h no_lecturer) = get_or-map first_published u.lecturers h no_lecturer no_lecturer h_in in
+        let fits = all_at (λ (l : Lecturer). given_with u.projects u.students l.row.key + placed_with u.projects u.students
+        l.row.key ≤ l.row.capacity) u.lecturers h no_lecturer kept.lecturers h_in in
+        let few : at_lecturer (instance_of (first u)) (both_places u) h ≤ count_with (shown_placement u.phase) u.projects u.students
+        (get_or u.lecturers h no_lecturer).row.key
+        = subst (λ (l : Lecturer). at_lecturer (instance_of (first u)) (both_places u) h ≤ count_with
+        (shown_placement u.phase) u.projects u.students l.row.key) row
+        (few_with (first u) sound refl refl (shown_placement u.phase) u.students both_known h h_first) in
+        let counts = shown_counts (λ o. list_any
+        (λ (p : ProjectRow). equals p.lecturer (get_or u.lecturers h no_lecturer).row.key && is_at p.key o) u.projects) u.phase
+        (given_none u.projects (get_or u.lecturers h no_lecturer).row.key) u.students in
+        let top : limit_of (instance_of (first u)) h
+        ≡ (get_or u.lecturers h no_lecturer).row.capacity =
+        get_or-map (λ (l : Lecturer). l.row.capacity) (first u).lecturers h no_lecturer 0 h_first
+        ∙ ap (λ (l : Lecturer). l.row.capacity) row in
         omega (arith, few, counts, fits, top)
 
 -- a published first round, and one that a second round keeps
@@ -173,16 +199,22 @@ no_group_gains_over_both w u group key best good second differ in_group there =
     let ours : List Key = filter (has (student_keys w)) group in
     let some : number_in ours key < length ours = has_number ours key (kept_key (has (student_keys w)) group key in_group there) in
     let found =
-    no_group_over_by_number (instance_of w) (instance_of (first u)) (map (number_in keys) ours) (places_of w) (places_of (first u)) (both_places u)
+    no_group_over_by_number (instance_of w) (instance_of (first u)) (map (number_in keys) ours) (places_of w) (places_of (first u))
+    (both_places u)
     (world_ranked w honest.sound honest.one honest.published) (world_ranked (first u) other.sound other.one other.published)
     (omega (arith, some, length-map ours (number_in keys)))
-    (differ_by_number w (first u) other.sound (λ k. has group k ≡ true) (IsOn (map (number_in keys) ours)) differ (of_group w group honest.sound.students_rise))
+    (differ_by_number w (first u) other.sound (λ k. has group k ≡ true) (IsOn (map (number_in keys) ours)) differ
+    (of_group w group honest.sound.students_rise))
     honest.best other.stable (adds u good second) in
     let same : map (λ (s : Student). s.row) u.students ≡ map (λ (s : Student). s.row) w.students
-    = sym (map_same (λ (s : Student). s.row) first_placed (λ s. refl) u.students) ∙ zip_same (ListAlike (λ k. has group k ≡ true)) (λ (s : Student). s.row) (λ x y r. r.0) w.students (first u).students differ.students in
+    = sym (map_same (λ (s : Student). s.row) first_placed (λ s. refl) u.students)
+    ∙ zip_same (ListAlike (λ k. has group k ≡ true)) (λ (s : Student). s.row) (λ x y r. r.0) w.students
+    (first u).students differ.students in
     let ones : AllByRecursion (IsShown w (λ s. s.placed)) w.students
-    = all_weaker _ _ (λ s h. (student_sees w s, h.0, refl, refl, shown w s best.published h.1.1)) w.students (all_both _ _ w.students (students_named w best.good.sound) (best.good.sound.no_earlier_lists (ap is_second (sym differ.round)))) in
-    let others : AllByRecursion (IsShown u (shown_placement u.phase)) u.students = all_weaker _ _ (λ s h. (student_sees u s, h, refl, refl, refl)) u.students (students_named u good.sound) in
+    = all_weaker _ _ (λ s h. (student_sees w s, h.0, refl, refl, shown w s best.published h.1.1)) w.students
+    (all_both _ _ w.students (students_named w best.good.sound) (best.good.sound.no_earlier_lists (ap is_second (sym differ.round)))) in
+    let others : AllByRecursion (IsShown u (shown_placement u.phase)) u.students =
+    all_weaker _ _ (λ s h. (student_sees u s, h, refl, refl, refl)) u.students (students_named u good.sound) in
     of_number w u w u honest (shown_placement u.phase) same (ap (map project_key) differ.projects) ones others group found.0 found.1 found.2
 
 -- NO LIST GAINS OVER BOTH ROUNDS
@@ -191,5 +223,8 @@ pub honest_over_both : (w u : World) (code : Key) (a b : StudentSees) → HasBes
     → IsNoWorse a.choices a.result b.result
 honest_over_both w u code a b best good second differ sees_a sees_b =
     let x = shown_student w code a sees_a in
-    let there : has (student_keys w) a.me.key ≡ true = subst (λ (z : StudentSees). has (student_keys w) z.me.key ≡ true) x.2 (found_has _ w.students x.0 x.1) in
-    one_gains_nothing w u code a b best.good.sound sees_a sees_b (no_group_gains_over_both w u (a.me.key ∷ []) a.me.key best good second (differ_in_group w (first u) a.me.key differ) (own_group a.me.key) there)
+    let there : has (student_keys w) a.me.key
+    ≡ true = subst (λ (z : StudentSees). has (student_keys w) z.me.key ≡ true) x.2 (found_has _ w.students x.0 x.1) in
+    one_gains_nothing w u code a b best.good.sound sees_a sees_b
+    (no_group_gains_over_both w u (a.me.key ∷ []) a.me.key best good second (differ_in_group w (first u) a.me.key differ)
+    (own_group a.me.key) there)

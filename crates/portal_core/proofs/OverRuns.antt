@@ -52,13 +52,15 @@ module _ (v : World) (one : v.round ≡ First) (out : v.phase ≡ Published) whe
 pub honest_over_runs : (w v : World) (code : Key) (a : StudentSees) (asked : List Request) (told : List Answer) (after : List World)
     → HasBest w → Good v → v.round ≡ First → v.phase ≡ Published
     → DifferInOneList w v a.me.key → view w code ≡ sees.Student a → Run v asked told after
-    → AllByRecursion (λ u. (b : StudentSees) → is_second u.round ≡ true → view u code ≡ sees.Student b → IsNoWorse a.choices a.result b.result) after
+    → AllByRecursion (λ u. (b : StudentSees) → is_second u.round ≡ true → view u code ≡ sees.Student b
+    → IsNoWorse a.choices a.result b.result) after
 honest_over_runs w v code a asked told after best good one out differ sees_a run =
     all_weaker _ _ no_worse after (run_keeps (Reached v one out) (step_reaches v one out) v asked told after (good, inl refl) run)
   where
     no_worse : (u : World) → Reached v one out u → (b : StudentSees) → is_second u.round ≡ true
         → view u code ≡ sees.Student b → IsNoWorse a.choices a.result b.result
-    no_worse u (good_u, inl is) b two sees_b = let no : is_second u.round ≡ false = ap (λ (x : World). is_second x.round) is ∙ ap is_second one in absurd (cc)
+    no_worse u (good_u, inl is) b two sees_b = let no : is_second u.round ≡ false = ap (λ (x : World). is_second x.round) is
+        ∙ ap is_second one in absurd (cc)
     no_worse u (good_u, inr (two_u, is)) b two sees_b =
         honest_over_both w u code a b best good_u two (subst (λ x. DifferInOneList w x a.me.key) (sym is) differ) sees_a sees_b
 
@@ -71,5 +73,8 @@ no_group_over_runs w v group key asked told after best good one out differ in_gr
     all_weaker _ _ no_worse after (run_keeps (Reached v one out) (step_reaches v one out) v asked told after (good, inl refl) run)
   where
     no_worse : (u : World) → Reached v one out u → is_second u.round ≡ true → OneGainsNothing w u group
-    no_worse u (good_u, inl is) two = let no : is_second u.round ≡ false = ap (λ (x : World). is_second x.round) is ∙ ap is_second one in absurd (cc)
-    no_worse u (good_u, inr (two_u, is)) two = no_group_gains_over_both w u group key best good_u two (subst (λ x. DifferInLists w x (λ k. has group k ≡ true)) (sym is) differ) in_group there
+    no_worse u (good_u, inl is) two = let no : is_second u.round ≡ false = ap (λ (x : World). is_second x.round) is
+        ∙ ap is_second one in absurd (cc)
+    no_worse u (good_u, inr (two_u, is)) two =
+        no_group_gains_over_both w u group key best good_u two
+        (subst (λ x. DifferInLists w x (λ k. has group k ≡ true)) (sym is) differ) in_group there

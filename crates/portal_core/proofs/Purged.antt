@@ -115,13 +115,15 @@ module _ (c : Key) where
   clear_row s = elim (equals s.row.code c) as (λ b. (cond b s (record s { choice = [] })).row ≡ s.row) [ true ↦ refl | false ↦ refl ]
 
   clear_earlier : (s : rows.Student) → (clear s).earlier_placement ≡ s.earlier_placement
-  clear_earlier s = elim (equals s.row.code c) as (λ b. (cond b s (record s { choice = [] })).earlier_placement ≡ s.earlier_placement) [ true ↦ refl | false ↦ refl ]
+  clear_earlier s = elim (equals s.row.code c) as
+      (λ b. (cond b s (record s { choice = [] })).earlier_placement ≡ s.earlier_placement) [ true ↦ refl | false ↦ refl ]
 
   clear_person : (s : rows.Student) → person_of (clear s) ≡ person_of s
   clear_person s = λ i. record { key = (clear_row s i).key; name = (clear_row s i).name }
 
   clear_shown : (phase : Phase) (s : rows.Student) → shown_placement phase (clear s) ≡ shown_placement phase s
-  clear_shown phase s = elim (equals s.row.code c) as (λ b. shown_placement phase (cond b s (record s { choice = [] })) ≡ shown_placement phase s) [ true ↦ refl | false ↦ refl ]
+  clear_shown phase s = elim (equals s.row.code c) as
+      (λ b. shown_placement phase (cond b s (record s { choice = [] })) ≡ shown_placement phase s) [ true ↦ refl | false ↦ refl ]
 
   clear_twice : (s : rows.Student) → clear (clear s) ≡ clear s
   clear_twice s = grind arith
@@ -144,18 +146,26 @@ module _ (c : Key) where
       λ i. cond (equals w.office c) OfficeCaller (caller_among (lecturer_with w c) (found i))
 
   catalogue_cleared : (w : World) → catalogue (cleared w) ≡ catalogue w
-  catalogue_cleared w = λ i. listings (lecturers_kept clear clear_earlier w.round w.lecturers w.projects w.students i) (projects_kept clear clear_earlier w.round w.lecturers w.projects w.students i)
+  catalogue_cleared w = λ i. listings (lecturers_kept clear clear_earlier w.round w.lecturers w.projects w.students i)
+      (projects_kept clear clear_earlier w.round w.lecturers w.projects w.students i)
 
   placed_cleared : (w : World) (p : Key) → persons (placed_at (cleared w) p) ≡ persons (placed_at w p)
-  placed_cleared w p = kept_filtered person_of clear (λ s. is_at p (shown_placement w.phase s)) clear_person (λ s. ap (is_at p) (clear_shown w.phase s)) w.students
+  placed_cleared w p = kept_filtered person_of clear (λ s. is_at p (shown_placement w.phase s)) clear_person
+      (λ s. ap (is_at p) (clear_shown w.phase s)) w.students
 
   abbrev gated : World → rows.Lecturer → Bool → LecturerSees
-  gated w l closed = record (lecturer_sees w l) { applicants = map (λ p. (p.key, cond closed (persons (applicants_to w p.key)) [])) (projects_of w l.row.key) }
+  gated w l closed = record (lecturer_sees w l) {
+    applicants = map (λ p. (p.key, cond closed (persons (applicants_to w p.key)) []))
+        (projects_of w l.row.key);
+  }
 
   lecturer_cleared : (w : World) (l : rows.Lecturer) → is_from_ranking w.phase ≡ false → lecturer_sees (cleared w) l ≡ lecturer_sees w l
   lecturer_cleared w l shut =
       (λ i. gated (cleared w) l (shut i))
-      ∙ (λ i. record (gated w l false) { catalogue = catalogue_cleared w i; placed = map (λ p. (p.key, placed_cleared w p.key i)) (projects_of w l.row.key) })
+      ∙ (λ i. record (gated w l false) {
+        catalogue = catalogue_cleared w i;
+        placed = map (λ p. (p.key, placed_cleared w p.key i)) (projects_of w l.row.key);
+      })
       ∙ sym (λ i. gated w l (shut i))
 
   view_cleared : (w : World) → is_from_ranking w.phase ≡ false → equals w.office c ≡ false → view (cleared w) c ≡ view w c
@@ -172,13 +182,17 @@ module _ (c : Key) where
   pairs_cleared : (phase : Phase) (ss : List rows.Student)
       → pairs_with (shown_placement phase) (map clear ss) ≡ pairs_with (shown_placement phase) ss
   pairs_cleared phase [] = refl
-  pairs_cleared phase (s ∷ ss) = λ i. cons_option (option_map (λ p. ((clear_row s i).key, p)) (clear_shown phase s i)) (pairs_cleared phase ss i)
+  pairs_cleared phase (s ∷ ss) = λ i. cons_option (option_map (λ p. ((clear_row s i).key, p)) (clear_shown phase s i))
+      (pairs_cleared phase ss i)
 
   abbrev but_lists : OfficeSees → List Key → OfficeSees
   but_lists o list = record o { without_list = list }
 
   abbrev office_gated : World → Bool → OfficeSees
-  office_gated w closed = record (office_sees w) { still_to_rank = cond closed (map (λ l. l.row.key) (filter (is_still_to_rank w) w.lecturers)) [] }
+  office_gated w closed = record (office_sees w) {
+    still_to_rank = cond closed
+        (map (λ l. l.row.key) (filter (is_still_to_rank w) w.lecturers)) [];
+  }
 
   office_cleared : (w : World) → is_from_ranking w.phase ≡ false
       → office_sees (cleared w) ≡ but_lists (office_sees w) (office_sees (cleared w)).without_list
@@ -218,23 +232,25 @@ module _ (c : Key) where
       → clear (with_choice k list s) ≡ clear (with_choice k list (clear s))
   choice_cleared k list s = grind arith
 
+  all_cleared : (w : World) → cleared w ≡ cleared (cleared w)
+  all_cleared w = λ i. record w { students = sym (all_twice w.students) i }
+
+  in_either : (r : Round) (w new other : World) → cleared new ≡ cleared other
+      → cleared (in_first r new w) ≡ cleared (in_first r other (cleared w))
+  in_either First w new other e = e
+  in_either Second w new other e = all_cleared w
+
   absorbs : (w : World) (a : Act) → is_open_act a ≡ true → cleared (after_act w a) ≡ cleared (after_act (cleared w) a)
-  absorbs w Nothing lets = λ i. record w { students = sym (all_twice w.students) i }
   absorbs w (Render sheet) lets = λ i. record w { students = sym (all_twice w.students) i }
+  absorbs w Nothing lets = all_cleared w
   absorbs w (Apply (Choices k list)) lets = λ i. record w { students = twice (with_choice k list) (choice_cleared k list) w.students i }
-  absorbs w (Apply (To phase)) lets = λ i. record w { phase = phase; students = sym (all_twice w.students) i }
-  absorbs w (Apply (Lecturers rs)) lets = elim w.round as (λ r. cleared (in_first r (with_lecturers w rs) w) ≡ cleared (in_first r (with_lecturers (cleared w) rs) (cleared w))) [
-    | First ↦ λ i. record (with_lecturers w rs) { students = sym (all_twice w.students) i }
-    | Second ↦ λ i. record w { students = sym (all_twice w.students) i }
-  ]
-  absorbs w (Apply (Projects rs)) lets = elim w.round as (λ r. cleared (in_first r (with_projects w rs) w) ≡ cleared (in_first r (with_projects (cleared w) rs) (cleared w))) [
-    | First ↦ λ i. record (with_projects w rs) { students = sym (all_twice w.students) i }
-    | Second ↦ λ i. record w { students = sym (all_twice w.students) i }
-  ]
-  absorbs w (Apply (Students rs)) lets = elim w.round as (λ r. cleared (in_first r (with_students w rs) w) ≡ cleared (in_first r (with_students (cleared w) rs) (cleared w))) [
-    | First ↦ λ i. record w { students = put_alike (map new_student rs) w.students (map clear w.students) (sym (all_twice w.students)) i }
-    | Second ↦ λ i. record w { students = sym (all_twice w.students) i }
-  ]
+  absorbs w (Apply (To phase)) lets = all_cleared (record w { phase = phase })
+  absorbs w (Apply (Lecturers rs)) lets = in_either w.round w (with_lecturers w rs) (with_lecturers (cleared w) rs)
+      (all_cleared (with_lecturers w rs))
+  absorbs w (Apply (Projects rs)) lets = in_either w.round w (with_projects w rs) (with_projects (cleared w) rs)
+      (all_cleared (with_projects w rs))
+  absorbs w (Apply (Students rs)) lets = in_either w.round w (with_students w rs) (with_students (cleared w) rs)
+      (λ i. record w { students = put_alike (map new_student rs) w.students (map clear w.students) (sym (all_twice w.students)) i })
   absorbs w a lets = absurd (cc)
 
   both_left : (v u v' u' : World) (a : Act) → is_open_act a ≡ true → Alike v u → StepLeaves v a v' → StepLeaves u a u'
@@ -257,14 +273,17 @@ module _ (c : Key) where
     act_of_office : (w : World) → is_from_ranking w.phase ≡ false → (ask : AbstractCall)
         → (to_office (office_sees w) ask).act ≡ (to_office (office_sees (cleared w)) ask).act
     act_of_office w closed ask =
-        sym (ap (λ o. (to_office o ask).act) (office_cleared w closed) ∙ act_same (office_sees w) (office_sees (cleared w)).without_list ask)
+        sym (ap (λ o. (to_office o ask).act) (office_cleared w closed)
+        ∙ act_same (office_sees w) (office_sees (cleared w)).without_list ask)
 
     office_alike : (ask : AbstractCall)
         → (decision (view v v.office) ask).act ≡ (decision (view u v.office) ask).act
     office_alike ask =
-        ap (λ b. (decision (sight_of v (cond b OfficeCaller (caller_among (lecturer_with v v.office) (student_with v v.office)))) ask).act) (is_own v.office)
+        ap (λ b. (decision (sight_of v (cond b OfficeCaller (caller_among (lecturer_with v v.office) (student_with v v.office)))) ask).act)
+        (is_own v.office)
         ∙ act_of_office v shut ask ∙ ap (λ x. (to_office (office_sees x) ask).act) e ∙ sym (act_of_office u shut_too ask)
-        ∙ sym (ap (λ b. (decision (sight_of u (cond b OfficeCaller (caller_among (lecturer_with u v.office) (student_with u v.office)))) ask).act) (ap (λ (x : World). equals x.office v.office) (sym e) ∙ is_own v.office))
+        ∙ sym (ap (λ b. (decision (sight_of u (cond b OfficeCaller (caller_among (lecturer_with u v.office) (student_with u v.office))))
+        ask).act) (ap (λ (x : World). equals x.office v.office) (sym e) ∙ is_own v.office))
 
     acts_alike : (code : Key) → (equals code c || equals code v.office) ≡ true → (ask : AbstractCall)
         → (decision (view v code) ask).act ≡ (decision (view u code) ask).act
@@ -276,7 +295,8 @@ module _ (c : Key) where
             (ap (λ x. (decision x ask).act) views_alike)
         by_code false own =
             let office : equals code v.office ≡ true = ap (λ b. b || equals code v.office) (sym own) ∙ mine in
-            subst (λ k. (decision (view v k) ask).act ≡ (decision (view u k) ask).act) (sym (is_same code v.office office)) (office_alike ask)
+            subst (λ k. (decision (view v k) ask).act ≡ (decision (view u k) ask).act) (sym (is_same code v.office office))
+            (office_alike ask)
 
     step_alike : (code : Key) → (equals code c || equals code v.office) ≡ true → (ask : AbstractCall) (a b : Answer) (v' u' : World)
         → Step v code ask a v' → Step u code ask b u' → Alike v' u'
@@ -294,7 +314,8 @@ module _ (c : Key) where
       let here : clear (with_choice k list s) ≡ clear s = grind (arith, all.0) in
       λ i. here i ∷ choice_unseen k list ss all.1 i
 
-  module _ (v v' : World) (code : Key) (good : Good v) (shut : is_from_ranking v.phase ≡ false) (another : equals code c ≡ false) (no_office : equals code v.office ≡ false) where
+  module _ (v v' : World) (code : Key) (good : Good v) (shut : is_from_ranking v.phase ≡ false) (another : equals code c ≡ false)
+      (no_office : equals code v.office ≡ false) where
     abbrev Unseen : AbstractCall → Decision → Type 0
     Unseen ask d = StepLeaves v d.act v' → Alike v' v
 
@@ -307,14 +328,16 @@ module _ (c : Key) where
         let found : student_with v code ≡ Some s = student_found v code s is in
         let own : s.row.code ≡ code = is_same _ _ (found_passes (λ (t : rows.Student). equals t.row.code code) v.students s found) in
         let all : AllByRecursion (λ (t : rows.Student). equals t.row.key s.row.key ≡ true → equals t.row.code c ≡ false) v.students
-        = all_weaker _ _ (λ t one same. ap (λ (x : rows.Student). equals x.row.code c) (one (is_same t.row.key s.row.key same)) ∙ ap (λ k. equals k c) own ∙ another) v.students (rows_with student_key _ v.students s good.sound.students_rise found) in
+        = all_weaker _ _ (λ t one same. ap (λ (x : rows.Student). equals x.row.code c) (one (is_same t.row.key s.row.key same))
+        ∙ ap (λ k. equals k c) own ∙ another) v.students (rows_with student_key _ v.students s good.sound.students_rise found) in
         ap cleared left ∙ λ i. record v { students = choice_unseen s.row.key list v.students all i }
 
     unseen : (x : Caller) → caller v code ≡ x → (ask : AbstractCall) → Unseen ask (decision (sight_of v x) ask)
     unseen NoCaller is ask = λ left. ap cleared left
     unseen OfficeCaller is ask = λ left. absurd (office_not v code (is_sym v.office code ∙ no_office) is)
     unseen (StudentCaller s) is ask = by_student Unseen same_left (student_sees v s) (λ list now left none. chosen_unseen s is list) ask
-    unseen (LecturerCaller l) is ask = by_lecturer Unseen same_left (lecturer_sees v l) (λ list now none. absurd (no_ranking v shut now)) ask
+    unseen (LecturerCaller l) is ask = by_lecturer Unseen same_left (lecturer_sees v l)
+        (λ list now none. absurd (no_ranking v shut now)) ask
 
   -- one request
 
@@ -323,7 +346,8 @@ module _ (c : Key) where
 
   served_unseen : (v v' : World) (r : Request) (wish : Wish) (a : Answer) → Good v → Shut v → equals r.code c ≡ false
       → equals r.code v.office ≡ false → Answers v r wish a v' → Alike v' v
-  served_unseen v v' r (Calls ask) a good shut another no_office s = unseen v v' r.code good shut another no_office (caller v r.code) refl ask s.left
+  served_unseen v v' r (Calls ask) a good shut another no_office s =
+      unseen v v' r.code good shut another no_office (caller v r.code) refl ask s.left
   served_unseen v v' r (NoCall refusal) a good shut another no_office s = ap cleared s.1
 
   office_stays : (v v' : World) (a : Act) → StepLeaves v a v' → v'.office ≡ v.office
@@ -396,7 +420,8 @@ module _ (c : Key) where
   purges o v u [] [] [] good_v good_u e is other shut run all closed =
       ([], [], tt, tt, refl, sym (views_alike v u e shut (ap (λ k. equals k c) is ∙ other)))
   purges o v u (r ∷ rs) (a ∷ told) (v' ∷ after) good_v good_u e is other shut run all closed =
-      by_test (λ u' good_u' e'. purges o v' u' rs told after good' good_u' e' is' other closed.0 run.1 all.1 closed.1) (equals r.code c || equals r.code o) refl
+      by_test (λ u' good_u' e'. purges o v' u' rs told after good' good_u' e' is' other closed.0 run.1 all.1 closed.1)
+      (equals r.code c || equals r.code o) refl
     where
       s : Answers v r r.wish a v'
       s = really v v' r a run.0 all.0
@@ -411,16 +436,19 @@ module _ (c : Key) where
           → (equals r.code c || equals r.code o) ≡ b
           → PurgesBy u (if_kept o r rs b) (replies_to c (r ∷ rs) (a ∷ told)) (view (end_of v' after) c)
       by_test again true mine =
-          let m : Mate v u v' r r.wish a = mate v u v' r r.wish a good_v good_u e shut (ap (λ k. equals k c) is ∙ other) (ap (λ k. equals r.code c || equals r.code k) is ∙ mine) s all.0 in
+          let m : Mate v u v' r r.wish a = mate v u v' r r.wish a good_v good_u e shut (ap (λ k. equals k c) is ∙ other)
+          (ap (λ k. equals r.code c || equals r.code k) is ∙ mine) s all.0 in
           let rest : Purges o v' m.left rs told after = again m.left m.good m.alike in
-          let replies : cond (equals r.code c) (m.reply ∷ replies_to c (own_and_office c o rs) rest.0) (replies_to c (own_and_office c o rs) rest.0) ≡ cond (equals r.code c) (a ∷ replies_to c rs told) (replies_to c rs told)
+          let replies : cond (equals r.code c) (m.reply ∷ replies_to c (own_and_office c o rs) rest.0)
+          (replies_to c (own_and_office c o rs) rest.0) ≡ cond (equals r.code c) (a ∷ replies_to c rs told) (replies_to c rs told)
           = same_both (equals r.code c) m.reply a _ _ m.same rest.4 in
           (m.reply ∷ rest.0, m.left ∷ rest.1, (inl m.served, rest.2), (m.known, rest.3), replies, rest.5)
       by_test again false mine =
           let parts : (equals r.code c ≡ false) × (equals r.code o ≡ false) = or_parts (equals r.code c) (equals r.code o) mine in
           let unseen' : Alike v' v = served_unseen v v' r r.wish a good_v shut parts.0 (ap (equals r.code) is ∙ parts.1) s in
           let rest : Purges o v' u rs told after = again u good_u (unseen' ∙ e) in
-          let replies : replies_to c (own_and_office c o rs) rest.0 ≡ cond (equals r.code c) (a ∷ replies_to c rs told) (replies_to c rs told)
+          let replies : replies_to c (own_and_office c o rs) rest.0
+          ≡ cond (equals r.code c) (a ∷ replies_to c rs told) (replies_to c rs told)
           = rest.4 ∙ ap (λ b. cond b (a ∷ replies_to c rs told) (replies_to c rs told)) (sym parts.0) in
           (rest.0, rest.1, rest.2, rest.3, replies, rest.5)
   purges o v u asked told after good_v good_u e is other shut run all closed = grind arith

@@ -4,7 +4,8 @@ use Rattle.portal_rules.proofs.Base.{ap, subst, inl, inr, map, ◌&&◌, ◌||�
 use Rattle.portal_rules.proofs.Base.{unwrap_or, list_any, arith, AllByRecursion, or-true, or_comm, Key, equals, has, is_empty}
 use Rattle.portal_rules.proofs.Base.{put, put_all, World, lecturer_key, student_key, applicants_of, projects_of}
 use Rattle.portal_rules.proofs.Base.{is_left, is_second, is_choosing, is_from_ranking, is_still_to_rank}
-use Rattle.portal_rules.proofs.Base.{Choices}
+use Rattle.portal_rules.proofs.Base.{Choices, Rise, find}
+use Rattle.portal_rules.specs.declared.view.View.{View as Sight}
 use Rattle.portal_rules.proofs.Base.{Ranks, Placements, Fill, SecondRound, changed}
 use Rattle.portal_rules.proofs.Base.{in_first, opened, with_lecturers, with_projects, with_students, with_choice}
 use Rattle.portal_rules.proofs.Base.{with_ranking, with_place, with_fill, placement_in, new_lecturer, new_student}
@@ -113,7 +114,8 @@ both_tests : (a b : Bool) → (a ≡ true → b ≡ true) → (b ≡ true → a 
 both_tests a b f g = grind (arith, f, g)
 
 same_filled : (w v : World) (l : rows.Lecturer) (o : Option (List Key))
-    → map student_key (applicants_of v l.row.key) ≡ map student_key (applicants_of w l.row.key) → IsLastOrFilled w l o → IsLastOrFilled v l o
+    → map student_key (applicants_of v l.row.key) ≡ map student_key (applicants_of w l.row.key) → IsLastOrFilled w l o
+    → IsLastOrFilled v l o
 same_filled w v l None e h = elim h [ inl none ↦ inl none | inr filled ↦ inr (filled ∙ ap Some (sym e)) ]
 same_filled w v l (Some list) e h = h
 
@@ -154,26 +156,35 @@ module _ (w : World) (good : Good w) (last : Key → Option (List Key)) (h : Are
 
   placed : (pairs : List (Key × Key)) → IsSaved (changed w (Placements pairs))
   placed pairs = record {
-    students = all_map (λ (s : rows.Student). IsLast s (last s.row.code)) (with_place pairs) w.students (all_weaker _ _ student w.students h.students);
-    lecturers = all_weaker _ _ (λ l x. same_filled w (changed w (Placements pairs)) l (last l.row.code) (applicants l.row.key) x) w.lecturers h.lecturers;
-    others = λ c none. h.others c (subst (λ cs. has (w.office ∷ map (λ (l : rows.Lecturer). l.row.code) w.lecturers ++ cs) c ≡ false) (map_same (λ (s : rows.Student). s.row.code) (with_place pairs) (λ s. ap (λ r. r.code) (place_row pairs s)) w.students) none);
+    students = all_map (λ (s : rows.Student). IsLast s (last s.row.code)) (with_place pairs) w.students
+        (all_weaker _ _ student w.students h.students);
+    lecturers = all_weaker _ _ (λ l x. same_filled w (changed w (Placements pairs)) l (last l.row.code) (applicants l.row.key) x)
+        w.lecturers h.lecturers;
+    others = λ c none. h.others c (subst (λ cs. has (w.office ∷ map (λ (l : rows.Lecturer). l.row.code) w.lecturers ++ cs) c ≡ false)
+        (map_same (λ (s : rows.Student). s.row.code) (with_place pairs) (λ s. ap (λ r. r.code) (place_row pairs s)) w.students) none);
   }
     where
       student : (s : rows.Student) → IsLast s (last s.row.code) → IsLast (with_place pairs s) (last (with_place pairs s).row.code)
-      student s x = elim (is_left s) as (λ b. IsLast (cond b (record s { placed = placement_in pairs s.row.key }) s) (last (cond b (record s { placed = placement_in pairs s.row.key }) s).row.code)) [ true ↦ x | false ↦ x ]
+      student s x = elim (is_left s) as (λ b. IsLast (cond b (record s { placed = placement_in pairs s.row.key }) s)
+          (last (cond b (record s { placed = placement_in pairs s.row.key }) s).row.code)) [ true ↦ x | false ↦ x ]
 
       listed : (ps : List ProjectRow) (s : rows.Student)
           → list_any (λ p. has (with_place pairs s).choice p.key) ps ≡ list_any (λ p. has s.choice p.key) ps
-      listed ps s = elim (is_left s) as (λ b. list_any (λ p. has (cond b (record s { placed = placement_in pairs s.row.key }) s).choice p.key) ps ≡ list_any (λ p. has s.choice p.key) ps) [ true ↦ refl | false ↦ refl ]
+      listed ps s = elim (is_left s) as (λ b. list_any
+          (λ p. has (cond b (record s { placed = placement_in pairs s.row.key }) s).choice p.key) ps
+          ≡ list_any (λ p. has s.choice p.key) ps) [ true ↦ refl | false ↦ refl ]
 
       applicants : (l : Key) → map student_key (applicants_of (changed w (Placements pairs)) l) ≡ map student_key (applicants_of w l)
-      applicants l = kept_filtered student_key (with_place pairs) (λ s. list_any (λ p. has s.choice p.key) (projects_of w l)) (λ s. ap (λ r. r.key) (place_row pairs s)) (listed (projects_of w l)) w.students
+      applicants l = kept_filtered student_key (with_place pairs) (λ s. list_any (λ p. has s.choice p.key) (projects_of w l))
+          (λ s. ap (λ r. r.key) (place_row pairs s)) (listed (projects_of w l)) w.students
 
   filled : IsSaved (changed w Fill)
   filled = record {
     students = h.students;
-    lecturers = all_map (λ (l : rows.Lecturer). IsLastOrFilled (changed w Fill) l (last l.row.code)) (with_fill w) w.lecturers (all_weaker _ _ lecturer w.lecturers h.lecturers);
-    others = λ c none. h.others c (subst (λ cs. has (w.office ∷ cs ++ map (λ (s : rows.Student). s.row.code) w.students) c ≡ false) (map_same (λ (l : rows.Lecturer). l.row.code) (with_fill w) (λ l. ap (λ r. r.code) (fill_row w l)) w.lecturers) none);
+    lecturers = all_map (λ (l : rows.Lecturer). IsLastOrFilled (changed w Fill) l (last l.row.code)) (with_fill w) w.lecturers
+        (all_weaker _ _ lecturer w.lecturers h.lecturers);
+    others = λ c none. h.others c (subst (λ cs. has (w.office ∷ cs ++ map (λ (s : rows.Student). s.row.code) w.students) c ≡ false)
+        (map_same (λ (l : rows.Lecturer). l.row.code) (with_fill w) (λ l. ap (λ r. r.code) (fill_row w l)) w.lecturers) none);
   }
     where
       given : (l : rows.Lecturer) (o : Option (List Key)) → IsLastOrFilled w l o → is_none l.ranking ≡ true
@@ -181,9 +192,12 @@ module _ (w : World) (good : Good w) (last : Key → Option (List Key)) (h : Are
       given l None x none = inr refl
       given l (Some list) x none = let e : false ≡ true = ap is_none (sym x) ∙ none in cc
 
-      lecturer : (l : rows.Lecturer) → IsLastOrFilled w l (last l.row.code) → IsLastOrFilled (changed w Fill) (with_fill w l) (last (with_fill w l).row.code)
+      lecturer : (l : rows.Lecturer) → IsLastOrFilled w l (last l.row.code)
+          → IsLastOrFilled (changed w Fill) (with_fill w l) (last (with_fill w l).row.code)
       lecturer l x =
-          (elim (is_still_to_rank w l) as (λ b. (b ≡ true → is_none l.ranking ≡ true) → IsLastOrFilled (changed w Fill) (cond b (record l { ranking = Some (map student_key (applicants_of w l.row.key)) }) l) (last (cond b (record l { ranking = Some (map student_key (applicants_of w l.row.key)) }) l).row.code)) [
+          (elim (is_still_to_rank w l) as (λ b. (b ≡ true → is_none l.ranking ≡ true)
+          → IsLastOrFilled (changed w Fill) (cond b (record l { ranking = Some (map student_key (applicants_of w l.row.key)) }) l)
+          (last (cond b (record l { ranking = Some (map student_key (applicants_of w l.row.key)) }) l).row.code)) [
             | true ↦ λ none. given l (last l.row.code) x (none refl)
             | false ↦ λ none. same_filled w (changed w Fill) l (last l.row.code) refl x
           ]) (λ still. missing (not (is_empty (applicants_of w l.row.key))) (is_none l.ranking) still)
@@ -205,17 +219,25 @@ module _ (w : World) (good : Good w) (last : Key → Option (List Key)) (h : Are
     -- of new students
     abbrev StudentsSaved : List rows.Student → Type 0
     StudentsSaved ss =
-        AllByRecursion (λ s. IsLast s (last s.row.code)) ss × ((c : Key) → has (codes_of (record w { students = ss })) c ≡ false → last c ≡ None)
+        AllByRecursion (λ s. IsLast s (last s.row.code)) ss
+        × ((c : Key) → has (codes_of (record w { students = ss })) c ≡ false → last c ≡ None)
 
     put_student : (ss : List rows.Student) (r : StudentRow) → StudentsSaved ss → IsStudent r
         → has (map student_key ss) r.key ≡ false
-        → (student_roll (office_sees w)).is_bad (map (λ (s : rows.Student). s.row) ss) r ≡ false → length ss + 1 ≤ 2000 → StudentsSaved (put student_key (new_student r) ss)
+        → (student_roll (office_sees w)).is_bad (map (λ (s : rows.Student). s.row) ss) r ≡ false → length ss + 1 ≤ 2000
+        → StudentsSaved (put student_key (new_student r) ss)
     put_student ss r kept form key free room =
         let code : has (codes_of (record w { students = ss })) r.code ≡ false
-        = subst (λ ls. has (w.office ∷ ls ++ map (λ (s : rows.Student). s.row.code) ss) r.code ≡ false) (map-map (λ (r : LecturerRow). r.code) (λ (l : rows.Lecturer). l.row) w.lecturers)
-        (subst (λ cs. has (w.office ∷ map (λ (l : LecturerRow). l.code) (map (λ (l : rows.Lecturer). l.row) w.lecturers) ++ cs) r.code ≡ false) (map-map (λ (r : StudentRow). r.code) (λ (s : rows.Student). s.row) ss) free) in (
-          all_put student_key (new_student r) (λ s. IsLast s (last s.row.code)) ss (ap (λ o. unwrap_or o []) (sym (kept.1 r.code code))) kept.0,
-          λ c none. kept.1 c (fewer_codes (w.office ∷ map (λ (l : rows.Lecturer). l.row.code) w.lecturers) (map (λ (s : rows.Student). s.row.code) ss) (map (λ (s : rows.Student). s.row.code) (put student_key (new_student r) ss)) c (λ there. has_put student_key (new_student r) (λ (s : rows.Student). s.row.code) ss c ∙ ap (λ b. equals c r.code || b) there ∙ or-true (equals c r.code)) none),
+        = subst (λ ls. has (w.office ∷ ls ++ map (λ (s : rows.Student). s.row.code) ss) r.code ≡ false)
+        (map-map (λ (r : LecturerRow). r.code) (λ (l : rows.Lecturer). l.row) w.lecturers)
+        (subst (λ cs. has (w.office ∷ map (λ (l : LecturerRow). l.code) (map (λ (l : rows.Lecturer). l.row) w.lecturers) ++ cs) r.code
+        ≡ false) (map-map (λ (r : StudentRow). r.code) (λ (s : rows.Student). s.row) ss) free) in (
+          all_put student_key (new_student r) (λ s. IsLast s (last s.row.code)) ss
+              (ap (λ o. unwrap_or o []) (sym (kept.1 r.code code))) kept.0,
+          λ c none. kept.1 c (fewer_codes (w.office ∷ map (λ (l : rows.Lecturer). l.row.code) w.lecturers)
+              (map (λ (s : rows.Student). s.row.code) ss) (map (λ (s : rows.Student). s.row.code) (put student_key (new_student r) ss)) c
+              (λ there. has_put student_key (new_student r) (λ (s : rows.Student). s.row.code) ss c ∙ ap (λ b. equals c r.code || b) there
+              ∙ or-true (equals c r.code)) none),
         )
 
     joined_students : (rs new : List StudentRow) (same : ℕ) → AllByRecursion IsStudent rs
@@ -223,8 +245,10 @@ module _ (w : World) (good : Good w) (last : Key → Option (List Key)) (h : Are
     joined_students rs new same forms e =
         let all : StudentsSaved (put_all student_key (map new_student new) w.students)
         = taken (student_roll (office_sees w)) (λ s. s.row) new_student (λ r. refl) IsStudent StudentsSaved
-        (λ xs ys r al. has_alike (λ (s : StudentRow). s.code) (w.office ∷ map (λ (l : LecturerRow). l.code) (office_sees w).lecturers) xs ys r.code al)
-        put_student rs 1 (office_sees w).students w.students new same (h.students, h.others) (record { tests = λ p. refl; long = refl }) forms e in
+        (λ xs ys r al. has_alike (λ (s : StudentRow). s.code)
+        (w.office ∷ map (λ (l : LecturerRow). l.code) (office_sees w).lecturers) xs ys r.code al)
+        put_student rs 1 (office_sees w).students w.students new same (h.students, h.others)
+        (record { tests = λ p. refl; long = refl }) forms e in
         record {
           students = all.0;
           lecturers = all_not_filled w (with_students w new) last w.lecturers no_rankings h.lecturers;
@@ -235,17 +259,27 @@ module _ (w : World) (good : Good w) (last : Key → Option (List Key)) (h : Are
     abbrev LecturersSaved : List rows.Lecturer → Type 0
     LecturersSaved ls =
         AllByRecursion (λ l. (l.ranking ≡ None) × IsLastOrFilled w l (last l.row.code)) ls
-        × ((c : Key) → has (w.office ∷ map (λ (s : rows.Student). s.row.code) w.students ++ map (λ (l : rows.Lecturer). l.row.code) ls) c ≡ false → last c ≡ None)
+        × ((c : Key) → has (w.office ∷ map (λ (s : rows.Student). s.row.code) w.students ++ map (λ (l : rows.Lecturer). l.row.code) ls) c
+        ≡ false → last c ≡ None)
 
     put_lecturer : (ls : List rows.Lecturer) (r : LecturerRow) → LecturersSaved ls → IsLecturer r
         → has (map lecturer_key ls) r.key ≡ false
-        → (lecturer_roll (office_sees w)).is_bad (map (λ (l : rows.Lecturer). l.row) ls) r ≡ false → length ls + 1 ≤ 300 → LecturersSaved (put lecturer_key (new_lecturer r) ls)
+        → (lecturer_roll (office_sees w)).is_bad (map (λ (l : rows.Lecturer). l.row) ls) r ≡ false → length ls + 1 ≤ 300
+        → LecturersSaved (put lecturer_key (new_lecturer r) ls)
     put_lecturer ls r kept form key free room =
-        let code : has (w.office ∷ map (λ (s : rows.Student). s.row.code) w.students ++ map (λ (l : rows.Lecturer). l.row.code) ls) r.code ≡ false
-        = subst (λ cs. has (w.office ∷ cs ++ map (λ (l : rows.Lecturer). l.row.code) ls) r.code ≡ false) (map-map (λ (r : StudentRow). r.code) (λ (s : rows.Student). s.row) w.students)
-        (subst (λ cs. has (w.office ∷ map (λ (s : StudentRow). s.code) (map (λ (s : rows.Student). s.row) w.students) ++ cs) r.code ≡ false) (map-map (λ (r : LecturerRow). r.code) (λ (l : rows.Lecturer). l.row) ls) free) in (
-          all_put lecturer_key (new_lecturer r) (λ l. (l.ranking ≡ None) × IsLastOrFilled w l (last l.row.code)) ls (refl, subst (IsLastOrFilled w (new_lecturer r)) (sym (kept.1 r.code code)) (inl refl)) kept.0,
-          λ c none. kept.1 c (fewer_codes (w.office ∷ map (λ (s : rows.Student). s.row.code) w.students) (map (λ (l : rows.Lecturer). l.row.code) ls) (map (λ (l : rows.Lecturer). l.row.code) (put lecturer_key (new_lecturer r) ls)) c (λ there. has_put lecturer_key (new_lecturer r) (λ (l : rows.Lecturer). l.row.code) ls c ∙ ap (λ b. equals c r.code || b) there ∙ or-true (equals c r.code)) none),
+        let code : has (w.office ∷ map (λ (s : rows.Student). s.row.code) w.students ++ map (λ (l : rows.Lecturer). l.row.code) ls) r.code
+        ≡ false
+        = subst (λ cs. has (w.office ∷ cs ++ map (λ (l : rows.Lecturer). l.row.code) ls) r.code ≡ false)
+        (map-map (λ (r : StudentRow). r.code) (λ (s : rows.Student). s.row) w.students)
+        (subst (λ cs. has (w.office ∷ map (λ (s : StudentRow). s.code) (map (λ (s : rows.Student). s.row) w.students) ++ cs) r.code ≡ false)
+        (map-map (λ (r : LecturerRow). r.code) (λ (l : rows.Lecturer). l.row) ls) free) in (
+          all_put lecturer_key (new_lecturer r) (λ l. (l.ranking ≡ None) × IsLastOrFilled w l (last l.row.code)) ls
+              (refl, subst (IsLastOrFilled w (new_lecturer r)) (sym (kept.1 r.code code)) (inl refl)) kept.0,
+          λ c none. kept.1 c (fewer_codes (w.office ∷ map (λ (s : rows.Student). s.row.code) w.students)
+              (map (λ (l : rows.Lecturer). l.row.code) ls)
+              (map (λ (l : rows.Lecturer). l.row.code) (put lecturer_key (new_lecturer r) ls)) c
+              (λ there. has_put lecturer_key (new_lecturer r) (λ (l : rows.Lecturer). l.row.code) ls c
+              ∙ ap (λ b. equals c r.code || b) there ∙ or-true (equals c r.code)) none),
         )
 
     joined_lecturers : (rs new : List LecturerRow) (same : ℕ) → AllByRecursion IsLecturer rs
@@ -253,15 +287,22 @@ module _ (w : World) (good : Good w) (last : Key → Option (List Key)) (h : Are
     joined_lecturers rs new same forms e =
         let sc : List Key = map (λ (s : rows.Student). s.row.code) w.students in
         let first : LecturersSaved w.lecturers
-        = (all_both _ _ w.lecturers no_rankings h.lecturers, λ c none. h.others c (ap (λ b. equals c w.office || b) (swapped (map (λ (l : rows.Lecturer). l.row.code) w.lecturers) sc c) ∙ none)) in
+        = (
+          all_both _ _ w.lecturers no_rankings h.lecturers,
+          λ c none. h.others c (ap (λ b. equals c w.office || b) (swapped (map (λ (l : rows.Lecturer). l.row.code) w.lecturers) sc c)
+              ∙ none),
+        ) in
         let all : LecturersSaved (put_all lecturer_key (map new_lecturer new) w.lecturers)
         = taken (lecturer_roll (office_sees w)) (λ l. l.row) new_lecturer (λ r. refl) IsLecturer LecturersSaved
-        (λ xs ys r al. has_alike (λ (l : LecturerRow). l.code) (w.office ∷ map (λ (s : StudentRow). s.code) (office_sees w).students) xs ys r.code al)
+        (λ xs ys r al. has_alike (λ (l : LecturerRow). l.code)
+        (w.office ∷ map (λ (s : StudentRow). s.code) (office_sees w).students) xs ys r.code al)
         put_lecturer rs 1 (office_sees w).lecturers w.lecturers new same first (record { tests = λ p. refl; long = refl }) forms e in
         record {
           students = h.students;
-          lecturers = all_weaker _ _ (λ l x. not_filled w (with_lecturers w new) l (last l.row.code) x.0 x.1) (with_lecturers w new).lecturers all.0;
-          others = λ c none. all.1 c (ap (λ b. equals c w.office || b) (swapped sc (map (λ (l : rows.Lecturer). l.row.code) (with_lecturers w new).lecturers) c) ∙ none);
+          lecturers = all_weaker _ _ (λ l x. not_filled w (with_lecturers w new) l (last l.row.code) x.0 x.1)
+              (with_lecturers w new).lecturers all.0;
+          others = λ c none. all.1 c (ap (λ b. equals c w.office || b)
+              (swapped sc (map (λ (l : rows.Lecturer). l.row.code) (with_lecturers w new).lecturers) c) ∙ none);
         }
 
   -- a list or a ranking that is submitted
@@ -285,15 +326,35 @@ module _ (w : World) (good : Good w) (last : Key → Option (List Key)) (h : Are
         is_not true no' = absurd (no' refl)
         is_not false no' = refl
 
+    -- the row that the code finds is the only one with its key, and with the code
+    alone : {Y : Type 0} (key code_of : Y → Key) (sees : Y → Sight) (ys : List Y) (y : Y) → Rise (map key ys)
+        → find (λ t. equals (code_of t) code) ys ≡ Some y → AllByRecursion (λ t. view w (code_of t) ≡ sees t) ys
+        → view w code ≡ sees y → ((t : Y) → sees t ≡ sees y → key t ≡ key y)
+        → AllByRecursion (λ t. equals (key t) (key y) ≡ equals code (code_of t)) ys
+    alone key code_of sees ys y rise found named seen known =
+        all_weaker _ _
+        (λ t x.
+        both_tests (equals (key t) (key y)) (equals code (code_of t))
+        (λ e. ap (λ u. equals code (code_of u)) (x.0 (is_same (key t) (key y) e))
+        ∙ ap (equals code) (is_same _ _ (found_passes (λ u. equals (code_of u) code) ys y found)) ∙ is_own code)
+        (λ e. ap (λ k. equals k (key y)) (known t (sym x.1 ∙ ap (view w) (sym (is_same code (code_of t) e)) ∙ seen)) ∙ is_own (key y)))
+        ys (all_both _ _ ys (rows_with key _ ys y rise found) named)
+
     chosen : (s : rows.Student) → caller w code ≡ StudentCaller s → is_from_ranking w.phase ≡ false
         → AreLast (changed w (Choices s.row.key list)) then_last
     chosen s is shut =
         record {
-          students = all_map (λ (t : rows.Student). IsLast t (then_last t.row.code)) (with_choice s.row.key list) w.students (all_weaker _ _ (λ t x. one t x.0 x.1) w.students (all_both _ _ w.students tests h.students));
-          lecturers = all_weaker _ _ (λ l x. subst (IsLastOrFilled (changed w (Choices s.row.key list)) l) (other_last l.row.code (λ e. member l x.1.1 e)) (not_filled w (changed w (Choices s.row.key list)) l (last l.row.code) x.0 x.1.0)) w.lecturers
-              (all_both _ _ w.lecturers (good.sound.no_rankings_yet shut) (all_both _ _ w.lecturers h.lecturers (lecturers_named w good.sound)));
+          students = all_map (λ (t : rows.Student). IsLast t (then_last t.row.code)) (with_choice s.row.key list) w.students
+              (all_weaker _ _ (λ t x. one t x.0 x.1) w.students (all_both _ _ w.students tests h.students));
+          lecturers = all_weaker _ _ (λ l x. subst (IsLastOrFilled (changed w (Choices s.row.key list)) l)
+              (other_last l.row.code (λ e. member l x.1.1 e))
+              (not_filled w (changed w (Choices s.row.key list)) l (last l.row.code) x.0 x.1.0)) w.lecturers
+              (all_both _ _ w.lecturers (good.sound.no_rankings_yet shut)
+              (all_both _ _ w.lecturers h.lecturers (lecturers_named w good.sound)));
           others = λ c none. unknown (λ e. let clash : Nobody ≡ Student (student_sees w s) = sym e ∙ seen in cc) c
-              (subst (λ cs. has (w.office ∷ map (λ (l : rows.Lecturer). l.row.code) w.lecturers ++ cs) c ≡ false) (map_same (λ (s : rows.Student). s.row.code) (with_choice s.row.key list) (λ t. ap (λ r. r.code) (choice_row s.row.key list t)) w.students) none);
+              (subst (λ cs. has (w.office ∷ map (λ (l : rows.Lecturer). l.row.code) w.lecturers ++ cs) c ≡ false)
+              (map_same (λ (s : rows.Student). s.row.code) (with_choice s.row.key list)
+              (λ t. ap (λ r. r.code) (choice_row s.row.key list t)) w.students) none);
         }
       where
         seen : view w code ≡ Student (student_sees w s)
@@ -302,29 +363,21 @@ module _ (w : World) (good : Good w) (last : Key → Option (List Key)) (h : Are
         found : student_with w code ≡ Some s
         found = student_found w code s is
 
-        own : s.row.code ≡ code
-        own = is_same _ _ (found_passes (λ (t : rows.Student). equals t.row.code code) w.students s found)
-
         member : (l : rows.Lecturer) → view w l.row.code ≡ Lecturer (lecturer_sees w l) → code ≡ l.row.code → ⊥
-        member l named e = let clash : Lecturer (lecturer_sees w l) ≡ Student (student_sees w s) = sym named ∙ ap (view w) (sym e) ∙ seen in cc
-
-        test : (t : rows.Student) → (t.row.key ≡ s.row.key → t ≡ s) → view w t.row.code ≡ Student (student_sees w t)
-            → equals t.row.key s.row.key ≡ equals code t.row.code
-        test t alone named =
-            both_tests (equals t.row.key s.row.key) (equals code t.row.code)
-            (λ e. ap (λ (x : rows.Student). equals code x.row.code) (alone (is_same t.row.key s.row.key e)) ∙ ap (equals code) own ∙ is_own code)
-            (λ e.
-            let same : Student (student_sees w t) ≡ Student (student_sees w s) = sym named ∙ ap (view w) (sym (is_same code t.row.code e)) ∙ seen in
-            let sees_same : student_sees w t ≡ student_sees w s = cc in
-            ap (λ (x : StudentSees). equals x.me.key s.row.key) sees_same ∙ is_own s.row.key)
+        member l named e = let clash : Lecturer (lecturer_sees w l) ≡ Student (student_sees w s) = sym named ∙ ap (view w) (sym e)
+            ∙ seen in cc
 
         tests : AllByRecursion (λ t. equals t.row.key s.row.key ≡ equals code t.row.code) w.students
-        tests = all_weaker _ _ (λ t x. test t x.0 x.1) w.students (all_both _ _ w.students (rows_with student_key _ w.students s good.sound.students_rise found) (students_named w good.sound))
+        tests = alone student_key (λ t. t.row.code) (λ t. Student (student_sees w t)) w.students s good.sound.students_rise found
+            (students_named w good.sound) seen
+            (λ t e. let both : Student (student_sees w t) ≡ Student (student_sees w s) = e in
+            let same : student_sees w t ≡ student_sees w s = cc in ap (λ (x : StudentSees). x.me.key) same)
 
         one : (t : rows.Student) → equals t.row.key s.row.key ≡ equals code t.row.code → IsLast t (last t.row.code)
             → IsLast (with_choice s.row.key list t) (then_last (with_choice s.row.key list t).row.code)
         one t e x =
-            (elim (equals t.row.key s.row.key) as (λ b. b ≡ equals code t.row.code → IsLast (cond b (record t { choice = list }) t) (then_last (cond b (record t { choice = list }) t).row.code)) [
+            (elim (equals t.row.key s.row.key) as (λ b. b ≡ equals code t.row.code
+            → IsLast (cond b (record t { choice = list }) t) (then_last (cond b (record t { choice = list }) t).row.code)) [
               | true ↦ λ e. ap (λ b. unwrap_or (cond b (Some list) (last t.row.code)) []) e
               | false ↦ λ e. x ∙ ap (λ b. unwrap_or (cond b (Some list) (last t.row.code)) []) e
             ]) e
@@ -332,10 +385,15 @@ module _ (w : World) (good : Good w) (last : Key → Option (List Key)) (h : Are
     ranked : (m : rows.Lecturer) → caller w code ≡ LecturerCaller m → AreLast (changed w (Ranks m.row.key list)) then_last
     ranked m is =
         record {
-          students = all_weaker _ _ (λ s x. subst (IsLast s) (other_last s.row.code (λ e. member s x.1 e)) x.0) w.students (all_both _ _ w.students h.students (students_named w good.sound));
-          lecturers = all_map (λ (l : rows.Lecturer). IsLastOrFilled (changed w (Ranks m.row.key list)) l (then_last l.row.code)) (with_ranking m.row.key list) w.lecturers (all_weaker _ _ (λ l x. one l x.0 x.1) w.lecturers (all_both _ _ w.lecturers tests h.lecturers));
+          students = all_weaker _ _ (λ s x. subst (IsLast s) (other_last s.row.code (λ e. member s x.1 e)) x.0) w.students
+              (all_both _ _ w.students h.students (students_named w good.sound));
+          lecturers = all_map (λ (l : rows.Lecturer). IsLastOrFilled (changed w (Ranks m.row.key list)) l (then_last l.row.code))
+              (with_ranking m.row.key list) w.lecturers
+              (all_weaker _ _ (λ l x. one l x.0 x.1) w.lecturers (all_both _ _ w.lecturers tests h.lecturers));
           others = λ c none. unknown (λ e. let clash : Nobody ≡ Lecturer (lecturer_sees w m) = sym e ∙ seen in cc) c
-              (subst (λ cs. has (w.office ∷ cs ++ map (λ (s : rows.Student). s.row.code) w.students) c ≡ false) (map_same (λ (l : rows.Lecturer). l.row.code) (with_ranking m.row.key list) (λ l. ap (λ r. r.code) (ranking_row m.row.key list l)) w.lecturers) none);
+              (subst (λ cs. has (w.office ∷ cs ++ map (λ (s : rows.Student). s.row.code) w.students) c ≡ false)
+              (map_same (λ (l : rows.Lecturer). l.row.code) (with_ranking m.row.key list)
+              (λ l. ap (λ r. r.code) (ranking_row m.row.key list l)) w.lecturers) none);
         }
       where
         seen : view w code ≡ Lecturer (lecturer_sees w m)
@@ -344,31 +402,27 @@ module _ (w : World) (good : Good w) (last : Key → Option (List Key)) (h : Are
         found : lecturer_with w code ≡ Some m
         found = lecturer_found w code m is
 
-        own : m.row.code ≡ code
-        own = is_same _ _ (found_passes (λ (l : rows.Lecturer). equals l.row.code code) w.lecturers m found)
-
         member : (s : rows.Student) → view w s.row.code ≡ Student (student_sees w s) → code ≡ s.row.code → ⊥
-        member s named e = let clash : Student (student_sees w s) ≡ Lecturer (lecturer_sees w m) = sym named ∙ ap (view w) (sym e) ∙ seen in cc
-
-        test : (l : rows.Lecturer) → (l.row.key ≡ m.row.key → l ≡ m) → view w l.row.code ≡ Lecturer (lecturer_sees w l)
-            → equals l.row.key m.row.key ≡ equals code l.row.code
-        test l alone named =
-            both_tests (equals l.row.key m.row.key) (equals code l.row.code)
-            (λ e. ap (λ (x : rows.Lecturer). equals code x.row.code) (alone (is_same l.row.key m.row.key e)) ∙ ap (equals code) own ∙ is_own code)
-            (λ e.
-            let same : Lecturer (lecturer_sees w l) ≡ Lecturer (lecturer_sees w m) = sym named ∙ ap (view w) (sym (is_same code l.row.code e)) ∙ seen in
-            let sees_same : lecturer_sees w l ≡ lecturer_sees w m = cc in
-            ap (λ (x : LecturerSees). equals x.me.key m.row.key) sees_same ∙ is_own m.row.key)
+        member s named e = let clash : Student (student_sees w s) ≡ Lecturer (lecturer_sees w m) = sym named ∙ ap (view w) (sym e)
+            ∙ seen in cc
 
         tests : AllByRecursion (λ l. equals l.row.key m.row.key ≡ equals code l.row.code) w.lecturers
-        tests = all_weaker _ _ (λ l x. test l x.0 x.1) w.lecturers (all_both _ _ w.lecturers (rows_with lecturer_key _ w.lecturers m good.sound.lecturers_rise found) (lecturers_named w good.sound))
+        tests = alone lecturer_key (λ l. l.row.code) (λ l. Lecturer (lecturer_sees w l)) w.lecturers m good.sound.lecturers_rise found
+            (lecturers_named w good.sound) seen
+            (λ l e. let both : Lecturer (lecturer_sees w l) ≡ Lecturer (lecturer_sees w m) = e in
+            let same : lecturer_sees w l ≡ lecturer_sees w m = cc in ap (λ (x : LecturerSees). x.me.key) same)
 
         one : (l : rows.Lecturer) → equals l.row.key m.row.key ≡ equals code l.row.code → IsLastOrFilled w l (last l.row.code)
-            → IsLastOrFilled (changed w (Ranks m.row.key list)) (with_ranking m.row.key list l) (then_last (with_ranking m.row.key list l).row.code)
+            → IsLastOrFilled (changed w (Ranks m.row.key list)) (with_ranking m.row.key list l)
+            (then_last (with_ranking m.row.key list l).row.code)
         one l e x =
-            (elim (equals l.row.key m.row.key) as (λ b. b ≡ equals code l.row.code → IsLastOrFilled (changed w (Ranks m.row.key list)) (cond b (record l { ranking = Some list }) l) (then_last (cond b (record l { ranking = Some list }) l).row.code)) [
-              | true ↦ λ e. subst (λ b. IsLastOrFilled (changed w (Ranks m.row.key list)) (record l { ranking = Some list }) (cond b (Some list) (last l.row.code))) e refl
-              | false ↦ λ e. subst (λ b. IsLastOrFilled (changed w (Ranks m.row.key list)) l (cond b (Some list) (last l.row.code))) e (same_filled w (changed w (Ranks m.row.key list)) l (last l.row.code) refl x)
+            (elim (equals l.row.key m.row.key) as (λ b. b ≡ equals code l.row.code
+            → IsLastOrFilled (changed w (Ranks m.row.key list)) (cond b (record l { ranking = Some list }) l)
+            (then_last (cond b (record l { ranking = Some list }) l).row.code)) [
+              | true ↦ λ e. subst (λ b. IsLastOrFilled (changed w (Ranks m.row.key list)) (record l { ranking = Some list })
+                  (cond b (Some list) (last l.row.code))) e refl
+              | false ↦ λ e. subst (λ b. IsLastOrFilled (changed w (Ranks m.row.key list)) l (cond b (Some list) (last l.row.code))) e
+                  (same_filled w (changed w (Ranks m.row.key list)) l (last l.row.code) refl x)
             ]) e
 
   -- the second round starts without any
@@ -378,7 +432,8 @@ module _ (w : World) (good : Good w) (last : Key → Option (List Key)) (h : Are
       subst (λ u. AreLast u (λ c. None)) (sym (opens_to w one out))
       (record {
         students = all_map (λ (s : rows.Student). IsLast s None) placed_before w.students (each_one _ (λ s. refl) w.students);
-        lecturers = all_map (λ (l : rows.Lecturer). IsLastOrFilled (opened First Published w) l None) ranked_before w.lecturers (each_one _ (λ l. inl refl) w.lecturers);
+        lecturers = all_map (λ (l : rows.Lecturer). IsLastOrFilled (opened First Published w) l None) ranked_before w.lecturers
+            (each_one _ (λ l. inl refl) w.lecturers);
         others = λ c none. refl;
       })
 
@@ -439,7 +494,8 @@ module _ (w : World) (good : Good w) (last : Key → Option (List Key)) (h : Are
     by_student s is ask a (Apply (Choices k list)) f l =
         subst (λ call. Fits (Calls call) a) (sym f.0)
         (submits (Calls (AbstractCall.SetChoices list)) list a refl refl f.1 (ap (λ (x : World). x.round) l)
-        (subst (λ u. AreLast u (then_last code list)) (sym (l ∙ ap (λ k. changed w (Choices k list)) f.2)) (chosen code list s is (choosing_open w.phase f.3).0)))
+        (subst (λ u. AreLast u (then_last code list)) (sym (l ∙ ap (λ k. changed w (Choices k list)) f.2))
+        (chosen code list s is (choosing_open w.phase f.3).0)))
     by_student s is ask a act f l = absurd f
 
     by_lecturer : (m : rows.Lecturer) → caller w code ≡ LecturerCaller m → (ask : AbstractCall) (a : Answer) (act : Act)
@@ -465,7 +521,8 @@ module _ (w : World) (good : Good w) (last : Key → Option (List Key)) (h : Are
     moved_on Ranking Published l = publishing (is_empty (office_sees w).still_to_rank) l
       where
         publishing : (b : Bool)
-            → StepLeaves w (cond b (record { reply = answered 200 (phase_body w.round Published); act = Publish }) (refuses (still_to_rank (office_sees w).still_to_rank))).act v
+            → StepLeaves w (cond b (record { reply = answered 200 (phase_body w.round Published); act = Publish })
+            (refuses (still_to_rank (office_sees w).still_to_rank))).act v
             → Stays
         publishing true l = (ap (λ (x : World). x.round) l.1, subst IsSaved (sym l.1) (placed l.0))
         publishing false l = is_left_so l
@@ -478,17 +535,23 @@ module _ (w : World) (good : Good w) (last : Key → Option (List Key)) (h : Are
     -- a move that names no other round
     plain : (wish : Wish) (a : Answer) → names_second wish ≡ false → ((o : Option (List Key)) → submission wish o ≡ o) → Stays
         → Fits wish a
-    plain wish a names none s = silent wish a (ap (λ b. not second && ((a.status == 200) && b)) names ∙ never second (a.status == 200), λ ok. none) s.0 s.1
+    plain wish a names none s = silent wish a
+        (ap (λ b. not second && ((a.status == 200) && b)) names ∙ never second (a.status == 200), λ ok. none) s.0 s.1
 
     opened_by : (p q : Phase) → w.phase ≡ p → w.round ≡ First → StepLeaves w (opens p q).act v
         → Fits (Calls (AbstractCall.Move q (Some Second))) (opens p q).reply
     opened_by Published Choosing at one l = (
-      ap (λ (x : World). is_second x.round) (l ∙ opens_to w one at) ∙ sym (ap (λ r. is_second r || opens_by (is_second r) (Calls (AbstractCall.Move Choosing (Some Second))) (opens Published Choosing).reply) one),
+      ap (λ (x : World). is_second x.round) (l ∙ opens_to w one at)
+          ∙ sym (ap (λ r. is_second r || opens_by (is_second r) (Calls (AbstractCall.Move Choosing (Some Second)))
+          (opens Published Choosing).reply) one),
       subst (λ f. AreLast v f) (λ i c. path c i) (subst (λ u. AreLast u (λ c. None)) (sym l) (reopened one at)),
     )
       where
-        path : (c : Key) → None ≡ then_by c second (last c) code (Calls (AbstractCall.Move Choosing (Some Second))) (opens Published Choosing).reply
-        path c = sym (ap (λ r. cond (opens_by (is_second r) (Calls (AbstractCall.Move Choosing (Some Second))) (opens Published Choosing).reply) None (cond (equals code c && ((opens Published Choosing).reply.status == 200)) (last c) (last c))) one)
+        path : (c : Key) → None ≡ then_by c second (last c) code (Calls (AbstractCall.Move Choosing (Some Second)))
+            (opens Published Choosing).reply
+        path c = sym (ap (λ r. cond (opens_by (is_second r) (Calls (AbstractCall.Move Choosing (Some Second)))
+            (opens Published Choosing).reply) None (cond (equals code c && ((opens Published Choosing).reply.status == 200)) (last c)
+            (last c))) one)
     opened_by p q at one l =
         same_world (Calls (AbstractCall.Move q (Some Second))) (opens p q).reply
         (refused second (Calls (AbstractCall.Move q (Some Second))) (opens p q).reply refl) l
@@ -496,7 +559,8 @@ module _ (w : World) (good : Good w) (last : Key → Option (List Key)) (h : Are
     moved_in : (named round : Round) → w.round ≡ round → (q : Phase) → StepLeaves w (moves_in (office_sees w) round named q).act v
         → Fits (Calls (AbstractCall.Move q (Some named))) (moves_in (office_sees w) round named q).reply
     moved_in First First at q l =
-        plain (Calls (AbstractCall.Move q (Some First))) (moves_in (office_sees w) First First q).reply refl (λ o. refl) (moved_on w.phase q l)
+        plain (Calls (AbstractCall.Move q (Some First))) (moves_in (office_sees w) First First q).reply refl (λ o. refl)
+        (moved_on w.phase q l)
     moved_in First Second at q l =
         plain (Calls (AbstractCall.Move q (Some First))) (moves_in (office_sees w) Second First q).reply refl (λ o. refl) (is_left_so l)
     moved_in Second First at q l = opened_by w.phase q refl at l
@@ -523,9 +587,12 @@ module _ (w : World) (good : Good w) (last : Key → Option (List Key)) (h : Are
     office_calls =
         by_office Leaves (λ ask reply form calm l. is_left_so l) (office_sees w)
         (record {
-          lecturers = λ rs new n now took form calm l. let o = open_rolls w.round w.phase now in in_round w.round (with_lecturers w new) o.0 l (joined_lecturers o.1 rs new n form took) refl;
-          projects = λ rs new n now took form calm l. let o = open_rolls w.round w.phase now in in_round w.round (with_projects w new) o.0 l (joined_projects o.1 new) refl;
-          students = λ rs new n now took form calm l. let o = open_rolls w.round w.phase now in in_round w.round (with_students w new) o.0 l (joined_students o.1 rs new n form took) refl;
+          lecturers = λ rs new n now took form calm l. let o = open_rolls w.round w.phase now in
+              in_round w.round (with_lecturers w new) o.0 l (joined_lecturers o.1 rs new n form took) refl;
+          projects = λ rs new n now took form calm l. let o = open_rolls w.round w.phase now in
+              in_round w.round (with_projects w new) o.0 l (joined_projects o.1 new) refl;
+          students = λ rs new n now took form calm l. let o = open_rolls w.round w.phase now in
+              in_round w.round (with_students w new) o.0 l (joined_students o.1 rs new n form took) refl;
           choosing = λ named at form calm. absurd (cc);
           ranking = λ named at form calm. absurd (cc);
           published = λ named at none form calm. absurd (cc);
@@ -550,8 +617,12 @@ module _ (w : World) (good : Good w) (last : Key → Option (List Key)) (h : Are
     by_caller NoCaller is ask form l =
         same_world (Calls ask) (decision Nobody ask).reply (refused second (Calls ask) (decision Nobody ask).reply refl) l
     by_caller OfficeCaller is ask form l = of_office ask form l
-    by_caller (StudentCaller s) is ask form l = by_student s is ask (to_student (student_sees w s) ask).reply (to_student (student_sees w s) ask).act (student_acts (student_sees w s) second ask) l
-    by_caller (LecturerCaller m) is ask form l = by_lecturer m is ask (to_lecturer (lecturer_sees w m) ask).reply (to_lecturer (lecturer_sees w m) ask).act (lecturer_acts (lecturer_sees w m) second ask) l
+    by_caller (StudentCaller s) is ask form l =
+        by_student s is ask (to_student (student_sees w s) ask).reply (to_student (student_sees w s) ask).act
+        (student_acts (student_sees w s) second ask) l
+    by_caller (LecturerCaller m) is ask form l =
+        by_lecturer m is ask (to_lecturer (lecturer_sees w m) ask).reply (to_lecturer (lecturer_sees w m) ask).act
+        (lecturer_acts (lecturer_sees w m) second ask) l
 
     answers : (wish : Wish) (r : Request) (a : Answer) → r.code ≡ code → Answers w r wish a v → Fits wish a
     answers (Calls ask) r a is s =
@@ -561,7 +632,8 @@ module _ (w : World) (good : Good w) (last : Key → Option (List Key)) (h : Are
 
   served : (v : World) (r : Request) (a : Answer) → Serves w r a v → Fits v r.code r.wish a
   served v r a (inl s) = answers v r.code r.wish r a refl s
-  served v r a (inr s) = subst (Fits v r.code r.wish) (sym s.0) (same_world v r.code r.wish unavailable (refused (is_second w.round) r.wish unavailable refl) s.1)
+  served v r a (inr s) = subst (Fits v r.code r.wish) (sym s.0)
+      (same_world v r.code r.wish unavailable (refused (is_second w.round) r.wish unavailable refl) s.1)
 
 pub saved_counts : SavedCounts
 saved_counts w [] [] [] last good run h = h

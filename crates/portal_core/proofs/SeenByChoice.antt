@@ -47,26 +47,33 @@ module _ (key : Key) (w : World) where
   fs = seen_student own
 
   row_kept : (l : rows.Lecturer) → (fl l).row ≡ l.row
-  row_kept l = elim (equals l.row.key key) as (λ b. (cond b l (record l { ranking = None; earlier_ranking = None })).row ≡ l.row) [ true ↦ refl | false ↦ refl ]
+  row_kept l = elim (equals l.row.key key) as
+      (λ b. (cond b l (record l { ranking = None; earlier_ranking = None })).row ≡ l.row) [ true ↦ refl | false ↦ refl ]
 
-  lowers : (ps : List ProjectRow) (ss : List rows.Student) (l : rows.Lecturer) → lowered_lecturer ps ss (fl l) ≡ fl (lowered_lecturer ps ss l)
+  lowers : (ps : List ProjectRow) (ss : List rows.Student) (l : rows.Lecturer)
+      → lowered_lecturer ps ss (fl l) ≡ fl (lowered_lecturer ps ss l)
   lowers ps ss l =
       elim (equals l.row.key key) as (λ b. lowered_lecturer ps ss (cond b l (record l { ranking = None; earlier_ranking = None }))
-      ≡ cond b (lowered_lecturer ps ss l) (record (lowered_lecturer ps ss l) { ranking = None; earlier_ranking = None })) [ true ↦ refl | false ↦ refl ]
+      ≡ cond b (lowered_lecturer ps ss l) (record
+      (lowered_lecturer ps ss l) { ranking = None; earlier_ranking = None })) [ true ↦ refl | false ↦ refl ]
 
-  named : (o : Option rows.Lecturer) → option_map (λ (l : rows.Lecturer). l.row.name) (option_map fl o) ≡ option_map (λ (l : rows.Lecturer). l.row.name) o
+  named : (o : Option rows.Lecturer) → option_map (λ (l : rows.Lecturer). l.row.name) (option_map fl o)
+      ≡ option_map (λ (l : rows.Lecturer). l.row.name) o
   named None = refl
   named (Some l) = ap (λ r. Some r.name) (row_kept l)
 
   names : (ls : List rows.Lecturer) (k : Key) → name_in (map fl ls) k ≡ name_in ls k
   names ls k =
-      ap (option_map (λ (l : rows.Lecturer). l.row.name)) (find_map fl (λ l. equals l.row.key k) (λ l. equals l.row.key k) (λ l. ap (λ r. equals r.key k) (row_kept l)) ls)
+      ap (option_map (λ (l : rows.Lecturer). l.row.name))
+      (find_map fl (λ l. equals l.row.key k) (λ l. equals l.row.key k) (λ l. ap (λ r. equals r.key k) (row_kept l)) ls)
       ∙ named (find (λ l. equals l.row.key k) ls)
 
   catalogue_seen : catalogue (seen_by key w) ≡ catalogue w
   catalogue_seen =
-      (λ i. listings (play.lecturers_kept fs (λ s. refl) w.round (map fl w.lecturers) w.projects w.students i) (play.projects_kept fs (λ s. refl) w.round (map fl w.lecturers) w.projects w.students i))
-      ∙ (λ i. listings (play.lecturers_of fl row_kept lowers w.round w.lecturers w.projects w.students i) (play.projects_of fl row_kept lowers w.round w.lecturers w.projects w.students i))
+      (λ i. listings (play.lecturers_kept fs (λ s. refl) w.round (map fl w.lecturers) w.projects w.students i)
+      (play.projects_kept fs (λ s. refl) w.round (map fl w.lecturers) w.projects w.students i))
+      ∙ (λ i. listings (play.lecturers_of fl row_kept lowers w.round w.lecturers w.projects w.students i)
+      (play.projects_of fl row_kept lowers w.round w.lecturers w.projects w.students i))
       ∙ λ i. filter_map (λ p. option_map (listing_with p) (names (in_play w).lecturers p.lecturer i)) (in_play w).projects
 
   module _ (l : rows.Lecturer) (mine : l.row.key ≡ key) (early : is_published w.phase ≡ false) where
@@ -74,7 +81,9 @@ module _ (key : Key) (w : World) where
     fixed = ap (λ b. cond b l (record l { ranking = None; earlier_ranking = None })) (ap (λ k. equals k key) mine ∙ is_own key)
 
     applied : AllByRecursion (λ p. persons (applicants_to (seen_by key w) p.key) ≡ persons (applicants_to w p.key)) (projects_of w key)
-    applied = all_weaker _ _ (λ p there. kept_filtered person_of fs (λ s. has s.choice p.key) (λ s. refl) (λ s. has_among s.choice own p.key ∙ only (has s.choice p.key) (has own p.key) there) w.students) (projects_of w key) (own_there (projects_of w key))
+    applied = all_weaker _ _ (λ p there. kept_filtered person_of fs (λ s. has s.choice p.key) (λ s. refl)
+        (λ s. has_among s.choice own p.key ∙ only (has s.choice p.key) (has own p.key) there) w.students) (projects_of w key)
+        (own_there (projects_of w key))
       where
         only : (a b : Bool) → b ≡ true → (a && b) ≡ a
         only a b e = grind arith
@@ -85,13 +94,17 @@ module _ (key : Key) (w : World) where
         ∙ sym (λ i. cond (is_none s.earlier_placement) (cond (early i) s.placed None) s.earlier_placement)
 
     placed_seen : (p : Key) → persons (placed_at (seen_by key w) p) ≡ persons (placed_at w p)
-    placed_seen p = kept_filtered person_of fs (λ s. is_at p (shown_placement w.phase s)) (λ s. refl) (λ s. ap (is_at p) (shown s)) w.students
+    placed_seen p = kept_filtered person_of fs (λ s. is_at p (shown_placement w.phase s)) (λ s. refl)
+        (λ s. ap (is_at p) (shown s)) w.students
 
     applicants_seen : (lecturer_sees (seen_by key w) l).applicants ≡ (lecturer_sees w l).applicants
     applicants_seen =
-        subst (λ k. map {B = Key × List Person} (λ p. (p.key, cond (is_from_ranking w.phase) (persons (applicants_to (seen_by key w) p.key)) [])) (projects_of w k)
-        ≡ map {B = Key × List Person} (λ p. (p.key, cond (is_from_ranking w.phase) (persons (applicants_to w p.key)) [])) (projects_of w k)) (sym mine)
-        (map_on {Y = Key × List Person} _ _ (projects_of w key) (all_weaker _ _ (λ p e i. (p.key, cond (is_from_ranking w.phase) (e i) [])) (projects_of w key) applied))
+        subst (λ k. map {B = Key × List Person} (λ p.
+        (p.key, cond (is_from_ranking w.phase) (persons (applicants_to (seen_by key w) p.key)) [])) (projects_of w k)
+        ≡ map {B = Key × List Person} (λ p. (p.key, cond (is_from_ranking w.phase) (persons (applicants_to w p.key)) [])) (projects_of w k))
+        (sym mine)
+        (map_on {Y = Key × List Person} _ _ (projects_of w key)
+        (all_weaker _ _ (λ p e i. (p.key, cond (is_from_ranking w.phase) (e i) [])) (projects_of w key) applied))
 
     lecturer_seen : lecturer_sees (seen_by key w) l ≡ lecturer_sees w l
     lecturer_seen = λ i. record (lecturer_sees w l) {
@@ -110,19 +123,22 @@ module _ (key : Key) (w : World) where
         ∙ ap Lecturer lecturer_seen ∙ sym (ap (sight_of w) is)
       where
         not_office : (b : Bool) → equals w.office c ≡ b → b ≡ false
-        not_office true e = let clash : OfficeCaller ≡ LecturerCaller l = sym (ap (λ b. cond b OfficeCaller (caller_among (lecturer_with w c) (student_with w c))) e) ∙ is in cc
+        not_office true e = let clash : OfficeCaller
+            ≡ LecturerCaller l = sym (ap (λ b. cond b OfficeCaller (caller_among (lecturer_with w c) (student_with w c))) e) ∙ is in cc
         not_office false e = refl
 
 same_view : (c key : Key) (v w : World) → SameToLecturer c key v w → view v c ≡ view w c
 same_view c key v w s =
     let early : is_published w.phase ≡ false = ap (λ (x : World). is_published x.phase) (sym s.same) ∙ s.early in
-    sym (view_seen key v s.one.0 s.one.2 s.early c s.one.1) ∙ ap (λ x. view x c) s.same ∙ view_seen key w s.other.0 s.other.2 early c s.other.1
+    sym (view_seen key v s.one.0 s.one.2 s.early c s.one.1) ∙ ap (λ x. view x c) s.same
+    ∙ view_seen key w s.other.0 s.other.2 early c s.other.1
 
 -- replies
 
 replied : (c : Key) (v w v' w' : World) (r : Request) (wish : Wish) (a b : Answer) → r.code ≡ c → view v c ≡ view w c
     → Answers v r wish a v' → Answers w r wish b w' → a ≡ b
-replied c v w v' w' r (Calls ask) a b mine same s t = s.told ∙ (λ i. answer (view v (mine i)) ask) ∙ ap (λ x. answer x ask) same ∙ sym (λ i. answer (view w (mine i)) ask) ∙ sym t.told
+replied c v w v' w' r (Calls ask) a b mine same s t = s.told ∙ (λ i. answer (view v (mine i)) ask) ∙ ap (λ x. answer x ask) same
+    ∙ sym (λ i. answer (view w (mine i)) ask) ∙ sym t.told
 replied c v w v' w' r (NoCall refusal) a b mine same s t = s.0 ∙ sym t.0
 
 -- no reply to the caller is 503: neither this one, if it is the caller's, nor another
@@ -136,10 +152,12 @@ lists_seen c key v w [] [] [] [] [] [] worlds requests run all run' all' = refl
 lists_seen c key v w (q ∷ qs) (r ∷ rs) (a ∷ told) (b ∷ said) (v' ∷ after) (w' ∷ later) worlds requests run all run' all' =
     let first = split (equals q.code c) a (replies_to c qs told) all in
     let second = split (equals r.code c) b (replies_to c rs said) all' in
-    let rest : replies_to c qs told ≡ replies_to c rs said = lists_seen c key v' w' qs rs told said after later worlds.1 requests.1 run.1 first.1 run'.1 second.1 in
+    let rest : replies_to c qs told ≡ replies_to c rs said =
+    lists_seen c key v' w' qs rs told said after later worlds.1 requests.1 run.1 first.1 run'.1 second.1 in
     let same : equals q.code c ≡ true → a ≡ b
     = λ own. replied c v w v' w' q q.wish a b (is_same q.code c own) (same_view c key v w worlds.0) (really v v' q a run.0 (first.0 own))
-    (subst (λ (x : Request). Answers w x x.wish b w') (sym (requests.0.1 own)) (really w w' r b run'.0 (second.0 (sym requests.0.0 ∙ own)))) in
+    (subst (λ (x : Request). Answers w x x.wish b w') (sym (requests.0.1 own))
+    (really w w' r b run'.0 (second.0 (sym requests.0.0 ∙ own)))) in
     same_both (equals q.code c) a b (replies_to c qs told) (replies_to c rs said) same rest
     ∙ ap (λ x. cond x (b ∷ replies_to c rs said) (replies_to c rs said)) requests.0.0
 lists_seen c key v w asked others told said after later worlds requests run all run' all' = grind arith

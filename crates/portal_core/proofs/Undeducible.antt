@@ -1,5 +1,5 @@
 -- For each other order within the lists of a run there is a run with the same replies.
-use Rattle.portal_rules.proofs.Base.{List, [], ◌∷◌, AllByRecursion, AllZip, Wish, Request, SameWish, equal, sets}
+use Rattle.portal_rules.proofs.Base.{List, [], ◌∷◌, AllByRecursion, AllZip, Wish, Request, SameWish, Equal, Sets}
 use Rattle.portal_rules.proofs.Base.{SameRequest}
 use Rattle.portal_rules.proofs.Disclosed.{places_unseen}
 use Rattle.portal_core.specs.Replies.{HasReply}
@@ -7,8 +7,8 @@ use Rattle.portal_core.specs.Unseen.{OrderUndeducible}
 use Rattle.portal_core.proofs.Going.{run_there, run_only}
 
 same_has : (p q : Wish) → SameWish p q → HasReply p → HasReply q
-same_has _ _ (equal wish) has = has
-same_has _ _ (sets reordered) has = tt
+same_has _ _ (Equal wish) has = has
+same_has _ _ (Sets reordered) has = tt
 
 all_have : (asked others : List Request) → AllZip SameRequest asked others → AllByRecursion (λ r. HasReply r.wish) asked
     → AllByRecursion (λ r. HasReply r.wish) others

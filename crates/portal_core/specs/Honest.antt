@@ -8,7 +8,7 @@ use Rattle.portal_rules.specs.declared.rows.ProjectRow.{ProjectRow}
 use Rattle.portal_rules.specs.World.{World, Lecturer, Student, is_at, first, is_second}
 use Rattle.portal_rules.specs.World.{is_published, in_play}
 use Rattle.portal_rules.specs.Good.{instance, matching_of, student_keys, placed_to, placed_with, Good}
-use Rattle.portal_rules.specs.Sight.{StudentSees}
+use Rattle.portal_rules.specs.Calls.{StudentSees}
 use Rattle.portal_rules.specs.View.{catalogue, view}
 use Rattle.portal_rules.specs.Faults.{in_catalogue}
 use Rattle.portal_rules.specs.Answer.{Answer}

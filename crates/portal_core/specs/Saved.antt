@@ -6,7 +6,7 @@ use Rattle.std.specs.List.{AllByRecursion}
 use Rattle.portal_rules.specs.Words.{Key, equals, has}
 use Rattle.portal_rules.specs.World.{World, Student, Lecturer, student_key, applicants_of, is_second}
 use Rattle.portal_rules.specs.Good.{Good, codes_of}
-use Rattle.portal_rules.specs.Sight.{AbstractCall}
+use Rattle.portal_rules.specs.Calls.{AbstractCall}
 use Rattle.portal_rules.specs.Answer.{Answer}
 use Rattle.portal_rules.specs.Run.{Wish, Calls, Request, Run, end_of}
 use Rattle.portal_rules.specs.declared.phase.Round.TheVariants.{Second}

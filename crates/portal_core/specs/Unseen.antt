@@ -8,16 +8,16 @@ use Rattle.portal_rules.specs.Good.{Good}
 use Rattle.portal_rules.specs.View.{view, caller, LecturerCaller}
 use Rattle.portal_rules.specs.Answer.{Answer}
 use Rattle.portal_rules.specs.Run.{Request, Run, AllAnswered, end_of}
-use Rattle.portal_rules.specs.Heard.{replies_to, SameButPlaces, SameRequest, AlikeUntilPublished}
+use Rattle.portal_rules.specs.Heard.{replies_to, SameUpToListOrder, SameRequest, AlikeUntilPublished}
 
 -- for each run without a 503, and each other order within its lists, there is a run without a 503
 -- whose replies are equal until published, except those with a student's list
 abbrev pub OrderUndeducible : Type 0
 OrderUndeducible =
     (v w : World) (asked others : List Request) (told : List Answer) (after : List World) → Good w
-    → SameButPlaces v w → AllZip SameRequest asked others → Run v asked told after → AllAnswered told
+    → SameUpToListOrder v w → AllZip SameRequest asked others → Run v asked told after → AllAnswered told
     → (said : List Answer) × (later : List World) × Run w others said later × AllAnswered said
-    × AlikeUntilPublished asked told said
+    × AlikeUntilPublished asked told told said
 
 -- the requests of the caller and of the office
 abbrev pub own_and_office : Key → Key → List Request → List Request

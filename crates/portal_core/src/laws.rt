@@ -9,7 +9,7 @@ ghost use Rattle.portal_core.specs.Honest.{HasBest, HonestIsBest, HonestOverBoth
 ghost use Rattle.portal_core.specs.Honest.{LeftFindsNone, NoGroupGains, ShowsBest};
 ghost use Rattle.portal_core.specs.Honest.{NoGroupGainsOverBoth, NoGroupGainsOverRuns};
 ghost use Rattle.portal_core.specs.Honest.{ShorterNeverHarm, WhyNot};
-ghost use Rattle.portal_rules.specs.Sight.{AbstractCall};
+ghost use Rattle.portal_rules.specs.Calls.{AbstractCall};
 ghost use Rattle.portal_rules.specs.Answer.{Answer};
 ghost use Rattle.portal_rules.specs.Run.{Request, Step, Run, AllAnswered};
 ghost use Rattle.portal_rules.specs.Run.{HasForm};

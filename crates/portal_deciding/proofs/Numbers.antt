@@ -83,7 +83,8 @@ unwritten_whole a s e = grind arith
 
 pub whole_office : (v : OfficeSees) (ask : AbstractCall) (d : Decision) → d ≡ emptied (to_office v ask)
     → HasWholeNumbers d.reply.body
-whole_office v ask d e = subst (λ (x : Decision). HasWholeNumbers x.reply.body) (sym e) (unwritten_whole (to_office v ask).act (to_office v ask).reply.body (office_whole v ask))
+whole_office v ask d e = subst (λ (x : Decision). HasWholeNumbers x.reply.body) (sym e)
+    (unwritten_whole (to_office v ask).act (to_office v ask).reply.body (office_whole v ask))
 
 pub whole_lecturer : (v : LecturerSees) (ask : AbstractCall) (d : Decision) → d ≡ to_lecturer v ask
     → HasWholeNumbers d.reply.body

@@ -14,7 +14,8 @@ passed_at test ps i p low here passes =
 
 -- the persons of one more project
 pub passed_more : (test : List Person → Bool) (ps : List (Key × Vec Person Global)) (i : ℕ) (p : Key × Vec Person Global)
-    → i < length ps → p ≡ get_or ps i p → list_any {X = List ℕ × List Person} (λ q. test q.1) (by_project (take (i + 1) ps)) ≡ (list_any {X = List ℕ × List Person} (λ q. test q.1) (by_project (take i ps)) || test p.1.items)
+    → i < length ps → p ≡ get_or ps i p → list_any {X = List ℕ × List Person} (λ q. test q.1) (by_project (take (i + 1) ps))
+    ≡ (list_any {X = List ℕ × List Person} (λ q. test q.1) (by_project (take i ps)) || test p.1.items)
 passed_more test ps i p low here =
     any_map (λ q. test q.1) (λ q. (q.0, q.1.items)) (take (i + 1) ps)
     ∙ list_any_more (λ q. test q.1.items) ps i p low

@@ -10,7 +10,8 @@ ghost use Rattle.portal_rules.specs.Faults.{is_applicant};
 ghost use Rattle.portal_rules.specs.inner.Room.{by_project};
 ghost use Rattle.portal_rules.specs.inner.Tables.{HasKeys};
 
-use portal_rules::{Person, keys_of};
+use portal_rules::Person;
+use portal_rules::index::keys_of;
 use spa_rows::Key;
 use std::alloc::{AllocError, Global};
 use std::collections::{HashMap, HashSet};

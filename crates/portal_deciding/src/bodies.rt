@@ -4,7 +4,7 @@ ghost use Rattle.std.specs.Prelude.{◌≡◌, ◌∷◌, [], map, codes, IfOk, 
 ghost use Rattle.serde_json.specs.View as json;
 ghost use Rattle.serde_json.specs.Data.{Data, string, put as with_member};
 ghost use Rattle.portal_rules.specs.World.{phase_word};
-ghost use Rattle.portal_rules.specs.Bodies as form;
+ghost use Rattle.portal_rules.specs.Bodies as bodies;
 ghost use Rattle.portal_rules.specs.Bodies.{dictionary, members, round_member};
 
 use portal_rules::{Listing, Person, Phase, Round};
@@ -54,7 +54,7 @@ impl ToJson for Key {
 }
 
 impl ToJson for Person {
-    ghost json_of = { form.person };
+    ghost json_of = { bodies.person };
 
     fn to_json(&self, alloc: Global) -> Result<Value, AllocError> {
         let mut members = Map::new(alloc);
@@ -64,7 +64,7 @@ impl ToJson for Person {
 }
 
 impl ToJson for Listing {
-    ghost json_of = { form.listing };
+    ghost json_of = { bodies.listing };
 
     fn to_json(&self, alloc: Global) -> Result<Value, AllocError> {
         let (mut members, lecturer) = (Map::new(alloc), self.lecturer_name.as_str());
@@ -79,7 +79,7 @@ impl ToJson for Listing {
 
 /// A pair of the result: a student and a project.
 impl ToJson for (Key, Key) {
-    ghost json_of = { form.pair };
+    ghost json_of = { bodies.pair };
 
     fn to_json(&self, alloc: Global) -> Result<Value, AllocError> {
         let (student, project) = self;
@@ -103,21 +103,21 @@ fn values_of<X: ToJson>(alloc: Global, items: &[X]) -> Result<Vec<Value>, AllocE
 
 /// Makes a JSON array of the items.
 pub(crate) fn array_of<X: ToJson>(alloc: Global, items: &[X]) -> Result<Value, AllocError>
-    ensures { IfOk result (λ value. json.view value ≡ form.several (map X.json_of items.now)) }
+    ensures { IfOk result (λ value. json.view value ≡ bodies.several (map X.json_of items.now)) }
 {
     Ok(Value::Array(values_of(alloc, items)?))
 }
 
 /// Makes the body that shows the catalogue.
 pub(crate) fn catalogue_body(alloc: Global, listings: &[Listing]) -> Result<Value, AllocError>
-    ensures { IfOk result (λ body. json.view body ≡ form.catalogue_body listings.now) }
+    ensures { IfOk result (λ body. json.view body ≡ bodies.catalogue_body listings.now) }
 {
     object_of(alloc, "projects", array_of(alloc, listings)?)
 }
 
 /// Makes the body that shows the phase and, only in the second round, the round.
 pub(crate) fn phase_body(alloc: Global, round: Round, phase: Phase) -> Result<Value, AllocError>
-    ensures { IfOk result (λ body. json.view body ≡ form.phase_body round phase) }
+    ensures { IfOk result (λ body. json.view body ≡ bodies.phase_body round phase) }
 {
     let mut body = Map::new(alloc);
     put_text(&mut body, alloc, "phase", phase.word())?;

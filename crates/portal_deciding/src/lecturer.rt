@@ -4,9 +4,9 @@ ghost use Rattle.std.specs.Prelude.{◌≡◌, [], ◌∷◌, map, option_map, c
 ghost use Rattle.serde_json.specs.View as json;
 ghost use Rattle.portal_rules.specs.World as world;
 ghost use Rattle.portal_rules.specs.Bodies.{dictionary, several, texts_or_null};
-ghost use Rattle.portal_rules.specs.Bodies as shown;
+ghost use Rattle.portal_rules.specs.Bodies as bodies;
 ghost use Rattle.portal_rules.specs.Faults.{ranking_fault};
-ghost use Rattle.portal_rules.specs.Sight.{AbstractCall};
+ghost use Rattle.portal_rules.specs.Calls.{AbstractCall};
 ghost use Rattle.portal_rules.specs.Answer as answer;
 ghost use Rattle.portal_rules.specs.Answer.{unless_faulty, to_lecturer};
 ghost use Rattle.portal_rules.specs.Meaning.{call_model, texts_of, decision_model};
@@ -22,7 +22,7 @@ use std::alloc::{AllocError, Global};
 
 /// Makes the body that replies to a lecturer's `Call::Me`.
 fn me_body(alloc: Global, view: &LecturerView) -> Result<Value, AllocError>
-    ensures { IfOk result (λ body. json.view body ≡ shown.lecturer_me view.now) }
+    ensures { IfOk result (λ body. json.view body ≡ bodies.lecturer_me view.now) }
 {
     let mut me = me_members(alloc, view.round, view.phase, "lecturer")?;
     put_person(&mut me, alloc, &view.me)?;
@@ -121,7 +121,7 @@ fn take_ranking(
     ensures { let texts = texts_of list.now in
         IfOk result (λ decision. decision_model decision
         ≡ unless_faulty (ranking_fault view.now.applicants texts)
-        (answer.applies (shown.students_body (Some texts)) (world.Ranks view.now.me.key texts))) }
+        (answer.applies (bodies.students_body (Some texts)) (world.Ranks view.now.me.key texts))) }
 {
     let students = match checked_ranking(alloc, &view.applicants, list)? {
         Ok(students) => students,

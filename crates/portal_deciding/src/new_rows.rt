@@ -7,7 +7,8 @@ ghost use Rattle.portal_rules.specs.inner.Tables.{HasRows, HasTexts};
 
 use crate::roll_refusal::{RollRefusal, conflict_at, roll_full};
 use crate::roll_rules::RollRules;
-use portal_rules::{Keyed, row_at};
+use portal_rules::Keyed;
+use portal_rules::index::row_at;
 use std::alloc::{AllocError, Global};
 use std::collections::{HashMap, HashSet};
 

@@ -5,7 +5,7 @@ ghost use Rattle.serde_json.specs.View as json;
 ghost use Rattle.portal_rules.specs.Words.{is_empty};
 ghost use Rattle.portal_rules.specs.World as world;
 ghost use Rattle.portal_rules.specs.World.{is_ranking, Fill};
-ghost use Rattle.portal_rules.specs.Bodies as form;
+ghost use Rattle.portal_rules.specs.Bodies as bodies;
 ghost use Rattle.portal_rules.specs.Faults as rolls;
 ghost use Rattle.portal_rules.specs.Faults.{Took};
 ghost use Rattle.portal_rules.specs.Answer as answer;
@@ -27,7 +27,7 @@ use std::alloc::{AllocError, Global};
 
 /// Makes the body that replies to the office's `Call::Me`.
 fn me_body(alloc: Global, view: &OfficeView) -> Result<Value, AllocError>
-    ensures { IfOk result (λ body. json.view body ≡ form.office_me view.now) }
+    ensures { IfOk result (λ body. json.view body ≡ bodies.office_me view.now) }
 {
     let me = me_members(alloc, view.round, view.phase, "office")?;
     Ok(Value::Object(me))
@@ -35,7 +35,7 @@ fn me_body(alloc: Global, view: &OfficeView) -> Result<Value, AllocError>
 
 /// Makes the body that shows the office the result.
 fn allocation_body(alloc: Global, pairs: &[(Key, Key)]) -> Result<Value, AllocError>
-    ensures { IfOk result (λ body. json.view body ≡ form.allocation_body pairs.now) }
+    ensures { IfOk result (λ body. json.view body ≡ bodies.allocation_body pairs.now) }
 {
     object_of(alloc, "pairs", array_of(alloc, pairs)?)
 }
@@ -58,7 +58,7 @@ fn row_refusal(alloc: Global, fault: &RollRefusal) -> Result<Reply, AllocError>
 
 /// Makes the body that tells the office how many rows are new and how many already present.
 fn roll_body(alloc: Global, new: usize, same: u64) -> Result<Value, AllocError>
-    ensures { IfOk result (λ body. json.view body ≡ form.roll_body new same) }
+    ensures { IfOk result (λ body. json.view body ≡ bodies.roll_body new same) }
 {
     let mut body = Map::new(alloc);
     put(&mut body, alloc, "added", Value::from(new))?;
@@ -129,7 +129,7 @@ fn add_rows<X: Drop + Keyed, R: RollRules<X>>(
 fn allocation(alloc: Global, view: &OfficeView) -> Result<Decision, AllocError>
     ensures { IfOk result (λ decision. decision_model decision
         ≡ open_where (world.has_result view.now.round view.now.phase)
-        (answer.shows (form.allocation_body view.now.pairs))) }
+        (answer.shows (bodies.allocation_body view.now.pairs))) }
 {
     if !view.round.has_result(view.phase) {
         return wrong_phase(alloc);
@@ -152,7 +152,7 @@ fn sheet(alloc: Global, view: &OfficeView, sheet: Sheet) -> Result<Decision, All
 
 /// Makes the body that tells the office which lecturers get a ranking by the fill.
 fn filled_body(alloc: Global, keys: &[Key]) -> Result<Value, AllocError>
-    ensures { IfOk result (λ body. json.view body ≡ form.filled_body keys.now) }
+    ensures { IfOk result (λ body. json.view body ≡ bodies.filled_body keys.now) }
 {
     object_of(alloc, "filled", array_of(alloc, keys)?)
 }

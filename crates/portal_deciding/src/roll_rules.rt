@@ -9,9 +9,8 @@ ghost use Rattle.portal_rules.specs.Faults.{lecturer_roll, project_roll, student
 ghost use Rattle.portal_rules.specs.inner.Tables.{HasTexts};
 
 use crate::roll_refusal::{RollRefusal, bad_row_at, conflict_at};
-use portal_rules::{
-    Change, Code, Coded, Keyed, LecturerRow, OfficeView, ProjectRow, StudentRow, keys_of,
-};
+use portal_rules::index::keys_of;
+use portal_rules::{Change, Code, Coded, Keyed, LecturerRow, OfficeView, ProjectRow, StudentRow};
 use spa_rows::limits::{MOST_LECTURERS, MOST_PROJECTS, MOST_STUDENTS};
 use std::alloc::{AllocError, Global};
 use std::collections::HashSet;

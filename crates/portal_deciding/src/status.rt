@@ -4,11 +4,12 @@ ghost use Rattle.std.specs.Prelude.{◌≡◌, ◌∷◌, [], length, map, filte
 ghost use Rattle.serde_json.specs.View as json;
 ghost use Rattle.serde_json.specs.Data.{string, put as with_member};
 ghost use Rattle.portal_rules.specs.World.{phase_word};
-ghost use Rattle.portal_rules.specs.Bodies as form;
+ghost use Rattle.portal_rules.specs.Bodies as bodies;
 ghost use Rattle.portal_rules.specs.Bodies.{count, members};
 
 use crate::bodies::{ToJson, array_of, put_text};
-use portal_rules::{OfficeView, Phase, Placings, Round, StudentRow};
+use portal_rules::index::Placings;
+use portal_rules::{OfficeView, Phase, Round, StudentRow};
 use serde_json::{Map, Value, put};
 use std::alloc::{AllocError, Global};
 
@@ -20,7 +21,7 @@ fn unplaced_values(
 ) -> Result<Vec<Value>, AllocError>
     ensures { IfOk result (λ values. map json.view values.items
         ≡ map string (map (λ s. s.key)
-        (filter (λ s. not (form.is_assigned placings.now.pairs s.key)) students.now))) }
+        (filter (λ s. not (bodies.is_assigned placings.now.pairs s.key)) students.now))) }
 {
     let mut values = Vec::new(alloc);
     for student in students {
@@ -34,7 +35,7 @@ fn unplaced_values(
 /// Makes a JSON string of the key of each student without a project, for the office's status.
 fn unassigned_values(alloc: Global, view: &OfficeView) -> Result<Vec<Value>, AllocError>
     ensures { IfOk result (λ values. map json.view values.items
-        ≡ map string (form.unassigned view.now)) }
+        ≡ map string (bodies.unassigned view.now)) }
 {
     let placings = Placings::of(alloc, view)?;
     unplaced_values(alloc, &placings, &view.students)
@@ -68,9 +69,9 @@ fn status_members(alloc: Global, view: &OfficeView) -> Result<Map<String, Value>
         (codes "lecturers", count (length view.now.lecturers))
         ∷ (codes "phase", string (phase_word view.now.phase))
         ∷ (codes "projects", count (length view.now.projects))
-        ∷ (codes "still_to_rank", form.texts view.now.still_to_rank)
+        ∷ (codes "still_to_rank", bodies.texts view.now.still_to_rank)
         ∷ (codes "students", count (length view.now.students))
-        ∷ (codes "without_list", form.texts view.now.without_list) ∷ [])) }
+        ∷ (codes "without_list", bodies.texts view.now.without_list) ∷ [])) }
 {
     let mut status = Map::new(alloc);
     put_counts(&mut status, alloc, view)?;
@@ -89,10 +90,10 @@ fn status_with_result(alloc: Global, view: &OfficeView) -> Result<Map<String, Va
         ∷ (codes "lecturers", count (length view.now.lecturers))
         ∷ (codes "phase", string (phase_word view.now.phase))
         ∷ (codes "projects", count (length view.now.projects))
-        ∷ (codes "still_to_rank", form.texts view.now.still_to_rank)
+        ∷ (codes "still_to_rank", bodies.texts view.now.still_to_rank)
         ∷ (codes "students", count (length view.now.students))
-        ∷ (codes "unassigned", form.texts (form.unassigned view.now))
-        ∷ (codes "without_list", form.texts view.now.without_list) ∷ [])) }
+        ∷ (codes "unassigned", bodies.texts (bodies.unassigned view.now))
+        ∷ (codes "without_list", bodies.texts view.now.without_list) ∷ [])) }
 {
     let mut status = status_members(alloc, view)?;
     let unassigned = Value::Array(unassigned_values(alloc, view)?);
@@ -108,7 +109,7 @@ fn status_with_result(alloc: Global, view: &OfficeView) -> Result<Map<String, Va
 
 /// Makes the body that shows the office the status.
 pub(crate) fn status_body(alloc: Global, view: &OfficeView) -> Result<Value, AllocError>
-    ensures { IfOk result (λ body. json.view body ≡ form.status_body view.now) }
+    ensures { IfOk result (λ body. json.view body ≡ bodies.status_body view.now) }
 {
     match (view.round, view.phase) {
         (Round::Second, _) => {

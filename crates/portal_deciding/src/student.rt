@@ -3,10 +3,10 @@
 ghost use Rattle.std.specs.Prelude.{◌≡◌, [], IfOk};
 ghost use Rattle.serde_json.specs.View as json;
 ghost use Rattle.portal_rules.specs.Bodies.{text_or_null};
-ghost use Rattle.portal_rules.specs.Bodies as shown;
+ghost use Rattle.portal_rules.specs.Bodies as bodies;
 ghost use Rattle.portal_rules.specs.Faults.{choice_fault};
 ghost use Rattle.portal_rules.specs.World as change;
-ghost use Rattle.portal_rules.specs.Sight.{AbstractCall};
+ghost use Rattle.portal_rules.specs.Calls.{AbstractCall};
 ghost use Rattle.portal_rules.specs.Answer as answer;
 ghost use Rattle.portal_rules.specs.Answer.{unless_faulty, to_student};
 ghost use Rattle.portal_rules.specs.Meaning.{call_model, texts_of, decision_model};
@@ -21,7 +21,7 @@ use std::alloc::{AllocError, Global};
 
 /// Makes the body that replies to a student's `Call::Me`.
 fn me_body(alloc: Global, view: &StudentView) -> Result<Value, AllocError>
-    ensures { IfOk result (λ body. json.view body ≡ shown.student_me view.now) }
+    ensures { IfOk result (λ body. json.view body ≡ bodies.student_me view.now) }
 {
     let mut me = me_members(alloc, view.round, view.phase, "student")?;
     put_person(&mut me, alloc, &view.me)?;
@@ -30,7 +30,7 @@ fn me_body(alloc: Global, view: &StudentView) -> Result<Value, AllocError>
 
 /// Makes the body that shows a student the list.
 fn choices_body(alloc: Global, choices: &[Key]) -> Result<Value, AllocError>
-    ensures { IfOk result (λ body. json.view body ≡ shown.projects_body choices.now) }
+    ensures { IfOk result (λ body. json.view body ≡ bodies.projects_body choices.now) }
 {
     object_of(alloc, "projects", array_of(alloc, choices)?)
 }
@@ -47,7 +47,7 @@ fn project_value(alloc: Global, project: &Option<Key>) -> Result<Value, AllocErr
 
 /// Makes the body that shows a student the project that the result gives.
 fn result_body(alloc: Global, project: &Option<Key>) -> Result<Value, AllocError>
-    ensures { IfOk result (λ body. json.view body ≡ shown.project_body project.now) }
+    ensures { IfOk result (λ body. json.view body ≡ bodies.project_body project.now) }
 {
     object_of(alloc, "project", project_value(alloc, project)?)
 }
@@ -57,7 +57,7 @@ fn take_choices(alloc: Global, view: &StudentView, list: &[Vec<u8>]) -> Result<D
     ensures { let texts = texts_of list.now in
         IfOk result (λ decision. decision_model decision
         ≡ unless_faulty (choice_fault view.now.catalogue texts)
-        (answer.applies (shown.projects_body texts) (change.Choices view.now.me.key texts))) }
+        (answer.applies (bodies.projects_body texts) (change.Choices view.now.me.key texts))) }
 {
     let projects = match checked_choices(alloc, &view.catalogue, list)? {
         Ok(projects) => projects,

@@ -1,7 +1,7 @@
--- A stream whose requests have replies has one visit without a 503.
+-- A stream whose requests have replies is served in one way without a 503.
 use Rattle.portal_desk.proofs.Base.{◌≡◌, ℕ, List, [], ◌∷◌, ◌++◌, refl, sym, ap, ◌∙◌, subst, arith, AllByRecursion, World}
 use Rattle.portal_desk.proofs.Base.{Good, Answer, Request, Run, AllAnswered, Exchange, requests_of, replies_of, text}
-use Rattle.portal_desk.proofs.Base.{Last, Ended, TellsExchanges, Visit, IsVisit}
+use Rattle.portal_desk.proofs.Base.{Last, ServesAnswered}
 use Rattle.portal_core.specs.Replies.{HasReply}
 use Rattle.portal_core.proofs.Going.{run_there}
 use Rattle.portal_rules.proofs.Only.{one_run}
@@ -22,19 +22,19 @@ paired w rs told worlds run = grind arith
 
 pub visit_there : (w : World) (bytes : List ℕ) (asked : List Request) (end : Last) (closing : List ℕ) → Good w
     → Requests bytes asked end closing → AllByRecursion (λ r. HasReply r.wish) asked
-    → (v : Visit) × IsVisit w v × (v.bytes ≡ bytes) × (v.finish ≡ Ended end) × AllAnswered (replies_of v.exchanges)
+    → (es : List Exchange) × (written : List ℕ) × (worlds : List World) × ServesAnswered w bytes end es written worlds
 visit_there w bytes asked end closing good requests all =
     let r = run_there w asked good all in
     let es : List Exchange = together asked r.0 in
-    let p = paired w asked r.0 r.1 r.2 in
-    let told : Requests bytes (requests_of es) end closing = subst (λ rs. Requests bytes rs end closing) (sym p.0) requests in
-    let run : Run w (requests_of es) (replies_of es) r.1
-    = subst (λ rs. Run w rs (replies_of es) r.1) (sym p.0) (subst (λ as'. Run w asked as' r.1) (sym p.1) r.2) in (
-      record { bytes = bytes; written = text es ++ closing; finish = Ended end; exchanges = es; worlds = r.1 },
-      record { tells = (closing, told, refl); run = run },
-      refl,
-      refl,
-      subst AllAnswered (sym p.1) r.3,
+    let p = paired w asked r.0 r.1 r.2 in (
+      es,
+      text es ++ closing,
+      r.1,
+      record {
+        tells = (closing, subst (λ rs. Requests bytes rs end closing) (sym p.0) requests, refl);
+        run = subst (λ rs. Run w rs (replies_of es) r.1) (sym p.0) (subst (λ as'. Run w asked as' r.1) (sym p.1) r.2);
+        answered = subst AllAnswered (sym p.1) r.3;
+      },
     )
 
 -- exchanges are the same if their requests and replies are
@@ -50,16 +50,15 @@ same_pairs (e ∷ es) (f ∷ fs) rs as' =
     let rest : es ≡ fs = same_pairs es fs more others in
     λ i. record { request = request i; reply = reply i } ∷ rest i
 
-pub visit_once : (w : World) (u v : Visit) (end last : Last) → IsVisit w u → IsVisit w v → u.bytes ≡ v.bytes
-    → u.finish ≡ Ended end → v.finish ≡ Ended last → AllAnswered (replies_of u.exchanges) → AllAnswered (replies_of v.exchanges) → u ≡ v
-visit_once w u v end last one other bytes ended ended' all all' =
-    let a : TellsExchanges (Ended end) v.bytes u.exchanges u.written
-    = subst (λ f. TellsExchanges f v.bytes u.exchanges u.written) ended (subst (λ b. TellsExchanges u.finish b u.exchanges u.written) bytes one.tells) in
-    let b : TellsExchanges (Ended last) v.bytes v.exchanges v.written = subst (λ f. TellsExchanges f v.bytes v.exchanges v.written) ended' other.tells in
-    let same = once connection_limit v.bytes (requests_of u.exchanges) (requests_of v.exchanges) a.1.0 b.1.0 end last a.0 b.0 a.1.1 b.1.1 a.1.2 b.1.2 in
-    let run : Run w (requests_of u.exchanges) (replies_of v.exchanges) v.worlds = subst (λ rs. Run w rs (replies_of v.exchanges) v.worlds) (sym same.0) other.run in
-    let told = one_run w (requests_of u.exchanges) (replies_of u.exchanges) (replies_of v.exchanges) u.worlds v.worlds one.run all run all' in
-    let exchanges : u.exchanges ≡ v.exchanges = same_pairs u.exchanges v.exchanges same.0 told.0 in
-    let finish : u.finish ≡ v.finish = ended ∙ ap Ended same.1 ∙ sym ended' in
-    let written : u.written ≡ v.written = a.2 ∙ (λ i. text (exchanges i) ++ same.2 i) ∙ sym b.2 in
-    λ i. record { bytes = bytes i; written = written i; finish = finish i; exchanges = exchanges i; worlds = told.1 i }
+pub visit_once : (w : World) (bytes : List ℕ) (end last : Last) (es fs : List Exchange) (written other : List ℕ)
+    (worlds later : List World)
+    → ServesAnswered w bytes end es written worlds → ServesAnswered w bytes last fs other later
+    → (end ≡ last) × (es ≡ fs) × (written ≡ other) × (worlds ≡ later)
+visit_once w bytes end last es fs written other worlds later one two =
+    let a = one.tells in
+    let b = two.tells in
+    let same = once connection_limit bytes (requests_of es) (requests_of fs) a.1.0 b.1.0 end last a.0 b.0 a.1.1 b.1.1 a.1.2 b.1.2 in
+    let run : Run w (requests_of es) (replies_of fs) later = subst (λ rs. Run w rs (replies_of fs) later) (sym same.0) two.run in
+    let told = one_run w (requests_of es) (replies_of es) (replies_of fs) worlds later one.run one.answered run two.answered in
+    let exchanges : es ≡ fs = same_pairs es fs same.0 told.0 in
+    (same.1, exchanges, a.2 ∙ (λ i. text (exchanges i) ++ same.2 i) ∙ sym b.2, told.1)

@@ -1,6 +1,6 @@
 -- What one exchange more does to a keeper, and what a stop may leave after it.
 use Rattle.portal_desk.proofs.Base.{inl, inr, List, [], ◌∷◌, ◌++◌, refl, sym, ap, ◌∙◌, subst, append_assoc, World}
-use Rattle.portal_desk.proofs.Base.{Answer, Wanted, Serves, Exchange, Reaches, KeeperState, Kept, Moves, Worked}
+use Rattle.portal_desk.proofs.Base.{Answer, Wanted, Serves, Exchange, Reaches, KeeperState, DeskState, Moves, Worked}
 use Rattle.portal_desk.proofs.Base.{FailsByCount, MayReach, Acted, LastsOrBreaks, LeavesBy, MayLeave, Bool}
 use Rattle.portal_desk.proofs.Base.{RequestContent}
 use Rattle.portal_desk.proofs.Base.{request_of}
@@ -121,16 +121,19 @@ pub Moves-snoc : (old mid new : KeeperState) (es : List Exchange) (r : Wanted) (
 Moves-snoc old mid new es r reply moves acted = Moves-append old mid new es (exchange r reply ∷ []) moves (Moves-one mid new r reply acted)
 
 -- what a desk did, and one more exchange
-pub worked_more : {K : Type 0} (state : K → KeeperState) (a b c : Kept K) (r : Wanted) (reply : Answer)
+pub worked_more : {K : Type 0} (state : K → KeeperState) (a b c : DeskState K) (r : Wanted) (reply : Answer)
     → Worked state a b → Acted (state b.keeper) (state c.keeper) r reply
     → FailsByCount b.failed c.failed (state b.keeper).faults (state c.keeper).faults → Worked state a c
 worked_more state a b c r reply h acted counts = record {
-  moves = (h.moves.0 ++ exchange r reply ∷ [], Moves-snoc (state a.keeper) (state b.keeper) (state c.keeper) h.moves.0 r reply h.moves.1 acted);
+  moves = (
+    h.moves.0 ++ exchange r reply ∷ [],
+    Moves-snoc (state a.keeper) (state b.keeper) (state c.keeper) h.moves.0 r reply h.moves.1 acted,
+  );
   counts = fails_then _ _ _ _ _ _ h.counts counts;
 }
 
 -- and what it did then
-pub worked_then : {K : Type 0} (state : K → KeeperState) (a b c : Kept K) → Worked state a b → Worked state b c
+pub worked_then : {K : Type 0} (state : K → KeeperState) (a b c : DeskState K) → Worked state a b → Worked state b c
     → Worked state a c
 worked_then state a b c h k = record {
   moves = (h.moves.0 ++ k.moves.0, Moves-append (state a.keeper) (state b.keeper) (state c.keeper) h.moves.0 k.moves.0 h.moves.1 k.moves.1);
@@ -138,5 +141,5 @@ worked_then state a b c h k = record {
 }
 
 -- a desk that did nothing
-pub worked_none : {K : Type 0} (state : K → KeeperState) (k : Kept K) → Worked state k k
+pub worked_none : {K : Type 0} (state : K → KeeperState) (k : DeskState K) → Worked state k k
 worked_none state k = record { moves = ([], Moves-none (state k.keeper)); counts = fails_none k.failed _ }

@@ -20,4 +20,5 @@ module _ (keys projects : List Key) (places : List (Option ℕ)) where
 
   pub none_more : (s : ℕ) (front total : List (Key × Key)) → s < length keys → s < length places
       → None ≡ get_or places s None → front ++ rest s ≡ total → front ++ rest (s + 1) ≡ total
-  none_more s front total low below at so_far = ap (λ (ps : List (Key × Key)). front ++ ps) (sym (here s low below ∙ rw (← at) refl)) ∙ so_far
+  none_more s front total low below at so_far = ap (λ (ps : List (Key × Key)). front ++ ps) (sym (here s low below ∙ rw (← at) refl))
+      ∙ so_far

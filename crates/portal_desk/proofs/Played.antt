@@ -4,7 +4,7 @@ use Rattle.portal_desk.proofs.Base.{Decision, decision, Good, Step, view, is_set
 use Rattle.portal_desk.proofs.Base.{matching_of, CanPublish, Act, Publish, Render, HasForm, StepLeaves, CanDo, IsSolved}
 use Rattle.portal_desk.proofs.Base.{Result, Ok, Err, inl, inr, refl, Bool, Answer, RequestContent, Answers, Calls}
 use Rattle.portal_desk.proofs.Base.{Serves}
-use Rattle.portal_desk.proofs.Base.{Wanted, request_of, reply_model, unavailable, KeeperState, IsAlive, Uses, Looks}
+use Rattle.portal_desk.proofs.Base.{Wanted, request_of, reply_model, unavailable, KeeperState, IsAlive, AfterCall, Looks}
 use Rattle.portal_desk.proofs.Base.{Changes, MayLeave, Acted}
 use Rattle.std.specs.Prelude.{IfOk, OnOk, OnErr, MatchResult}
 use Rattle.portal_rules.specs.declared.keeper.KeepFault.{KeepFault}
@@ -22,13 +22,15 @@ pub solved_best : (w : World) (i : Spa) (pairs : List (Key × Key)) → Good w �
     → IsBest (instance w) (matching_of (changed w (Placements pairs)))
 solved_best w i pairs g is solved =
     let best : IsBest (instance w) solved.0 = subst (λ j. IsBest j solved.0) is solved.1 in
-    let by : pairs ≡ pairs_by (instance w).student_keys (instance w).project_keys solved.0 = solved.2 ∙ ap (λ (j : Spa). pairs_by j.student_keys j.project_keys solved.0) is in
+    let by : pairs ≡ pairs_by (instance w).student_keys (instance w).project_keys solved.0 = solved.2
+    ∙ ap (λ (j : Spa). pairs_by j.student_keys j.project_keys solved.0) is in
     subst (λ ps. IsBest (instance w) (matching_of (changed w (Placements ps)))) (sym by)
     (subst (IsBest (instance w)) (sym (pairs_place w solved.0 g.sound best.stable.matching)) best)
 
 pub solved_good : (w : World) (i : Spa) (pairs : List (Key × Key)) → Good w → CanPublish w → i ≡ instance w
     → IsSolved i pairs → Good (changed w (Placements pairs))
-solved_good w i pairs g ready is solved = to_published w pairs g (ap is_setup ready.phase) ready.all_ranked (solved_best w i pairs g is solved)
+solved_good w i pairs g ready is solved =
+    to_published w pairs g (ap is_setup ready.phase) ready.all_ranked (solved_best w i pairs g is solved)
 
 -- what was decided of a view, where it is known which view that is
 pub of_shown : {T E V D A B : Type 0} (r : Result T E) (f : T → D) (h : V → D) (v u : V) → (A → B → v ≡ u)
@@ -72,8 +74,9 @@ published w u v i pairs g is solved same made =
 pub performed : {A B : Type 0} (d : A) (r : Result B KeepFault) (old mid new : KeeperState) (code : Key) (ask : AbstractCall) (e : Decision)
     → HasForm ask → Looks (Ok d) old mid → IsAlive mid
     → (mid.clean → e ≡ decision (view old.world code) ask) → Changes r mid new (StepLeaves mid.world e.act)
-    → Uses r old new (λ w. (old.broken → ⊥) × (old.clean → (reply : Answer) × Step old.world code ask reply w))
-performed d r old mid new code ask e form looks alive decided changes = uses_then d r old mid new _ _ looks.uses changes.uses (λ disk w made.
+    → AfterCall r old new (λ w. (old.broken → ⊥) × (old.clean → (reply : Answer) × Step old.world code ask reply w))
+performed d r old mid new code ask e form looks alive decided changes =
+    uses_then d r old mid new _ _ looks.uses changes.uses (λ disk w made.
     let before = (changes.uses.breaks disk).0 in (
       λ bad. alive before ((looks.uses.breaks before).2 bad),
       λ on.
@@ -82,16 +85,18 @@ performed d r old mid new code ask e form looks alive decided changes = uses_the
     ))
 
 -- what playing a call for a request does to a keeper
-pub acted : (r : Result Reply KeepFault) (old new : KeeperState) (closes : Bool) (a : RequestContent) (code : Key) (ask : AbstractCall) (reply : Reply)
+pub acted : (r : Result Reply KeepFault) (old new : KeeperState) (closes : Bool) (a : RequestContent) (code : Key) (ask : AbstractCall)
+    (reply : Reply)
     → code ≡ a.code → wish_of a ≡ Calls ask
-    → Uses r old new (λ w. (old.broken → ⊥) × (old.clean → (other : Answer) × Step old.world code ask other w)) → OnOk r (IsAlive new)
+    → AfterCall r old new (λ w. (old.broken → ⊥) × (old.clean → (other : Answer) × Step old.world code ask other w)) → OnOk r (IsAlive new)
     → IfOk r (λ told. new.clean → Step old.world code ask (reply_model told) new.world) → OnErr r (new.clean → new.world ≡ old.world)
     → MatchResult r (λ told. reply ≡ told) (λ _. reply_model reply ≡ unavailable) → Acted old new (request_of closes a) (reply_model reply)
 acted r old new closes a code ask reply own is uses alive step same told = go r uses alive step same told
   where
     answers : (other : Answer) (w : World) → Step old.world code ask other w
         → Serves old.world (request_of closes a) other w
-    answers other w made = inl (subst (λ wish. Answers old.world (request_of closes a) wish other w) (sym is) (subst (λ c. Step old.world c ask other w) own made))
+    answers other w made = inl (subst (λ wish. Answers old.world (request_of closes a) wish other w) (sym is)
+        (subst (λ c. Step old.world c ask other w) own made))
 
     may_leave : (w : World) → (new.broken → reply_model reply ≡ unavailable)
         → (old.broken → ⊥) × (old.clean → (other : Answer) × Step old.world code ask other w)
@@ -99,18 +104,24 @@ acted r old new closes a code ask reply own is uses alive step same told = go r 
     may_leave w untold (alive, made) = record { alive = alive; untold = untold; turned = λ on. let m = made on in (m.0, answers m.0 w m.1) }
 
     go : (r : Result Reply KeepFault)
-        → Uses r old new (λ w. (old.broken → ⊥) × (old.clean → (other : Answer) × Step old.world code ask other w))
+        → AfterCall r old new (λ w. (old.broken → ⊥) × (old.clean → (other : Answer) × Step old.world code ask other w))
         → OnOk r (IsAlive new)
         → IfOk r (λ told. new.clean → Step old.world code ask (reply_model told) new.world) → OnErr r (new.clean → new.world ≡ old.world)
-        → MatchResult r (λ told. reply ≡ told) (λ _. reply_model reply ≡ unavailable) → Acted old new (request_of closes a) (reply_model reply)
+        → MatchResult r (λ told. reply ≡ told) (λ _. reply_model reply ≡ unavailable)
+        → Acted old new (request_of closes a) (reply_model reply)
     go (Ok v) uses alive step same told = record {
       clean = uses.clean;
-      serves = λ on. answers (reply_model reply) new.world (subst (λ x. Step old.world code ask (reply_model x) new.world) (sym told) (step on));
+      serves = λ on. answers (reply_model reply) new.world
+          (subst (λ x. Step old.world code ask (reply_model x) new.world) (sym told) (step on));
       lasts = λ other. uses.lasts;
       breaks = uses.breaks;
       broken = λ disk bad w. absurd (alive disk bad);
       settled = λ rest on. uses.settled on;
-      leaves = λ disk w left. elim (uses.leaves disk w left) [ inl was ↦ inl was | inr so ↦ inr (may_leave w (λ bad. absurd (alive disk bad)) so) ];
+      leaves = λ disk w left. elim (uses.leaves disk w left) [
+        | inl was ↦ inl was
+        | inr so ↦ inr
+            (may_leave w (λ bad. absurd (alive disk bad)) so)
+      ];
     }
     go (Err e) uses alive step same told = record {
       clean = uses.clean;

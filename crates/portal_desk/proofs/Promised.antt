@@ -2,25 +2,26 @@
 use Rattle.portal_desk.proofs.Base.{Some, ◌≡◌, ℕ, ◌+◌, ◌<◌, length, take, map, get_or, add-one, inl, inr, true}
 use Rattle.portal_desk.proofs.Base.{false, List, [], ◌∷◌, ◌++◌, refl, sym, ap, ◌∙◌, subst, both_ways, Key, World, view}
 use Rattle.portal_desk.proofs.Base.{AbstractCall, Answer, Good, Request, Step, Run, Serves, requests_of}
-use Rattle.portal_desk.proofs.Base.{Exchange, replies_of, KeeperState, Ended, Visit, AreVisits, exchanges_of, worlds_of, Session}
-use Rattle.portal_desk.proofs.Base.{IsSession, AreServed, ServesEach, take-suc, map-append, AllByRecursion}
+use Rattle.portal_desk.proofs.Base.{Exchange, replies_of, Reaches, KeeperState, Ended, exchanges_of, visits_of, Session}
+use Rattle.portal_desk.proofs.Base.{IsSession, SomeSession, ServesEach, ServeWhole, take-suc, map-append, AllByRecursion}
 use Rattle.portal_desk.proofs.Base.{is_published, Wish, Calls, NoCall, Answers, Last, AreServedOn, left_by}
 use Rattle.portal_desk.proofs.Base.{IsServed, IsUnseen, AreUnseen, PublishesBest, IsUpheld, MainPromise, HasPromise}
-use Rattle.portal_desk.proofs.Base.{IsEnded, AreSessionsOf}
 use Rattle.portal_core.specs.Honest.{HasBest, ShowsBest}
 use Rattle.portal_rules.proofs.Unseen.{others}
-use Rattle.portal_desk.proofs.Heeding.{are_visits, whole_run, same_texts}
-use Rattle.portal_desk.proofs.Telling.{SomeSession}
+use Rattle.portal_desk.proofs.Heeding.{like_all}
+use Rattle.portal_desk.proofs.Steps.{Reaches-append}
 
--- on a clean disk, a keeper that is clean at the end was clean all along
-pub stays_served : {K : Type 0} (state : K → KeeperState) (k : K) (ss : List (Session K)) → AreServedOn state k ss
-    → (state (left_by k ss)).disk → (state (left_by k ss)).clean → (state k).disk × (state k).clean × AreServed state k ss
-stays_served state k [] served disk on = (disk, on, tt)
-stays_served state k (s ∷ ss) (resumes, serves, later) disk on =
-    let next = stays_served state s.new ss later disk on in
+-- on a clean disk, the exchanges are a run to the world of a keeper that is clean at the end
+are_run : {K : Type 0} (state : K → KeeperState) (k : K) (ss : List (Session K)) → AreServedOn state k ss
+    → (state (left_by k ss)).disk → (state (left_by k ss)).clean
+    → (state k).disk × (state k).clean × Reaches (state k).world (exchanges_of (visits_of ss)) (state (left_by k ss)).world
+are_run state k [] served disk on = (disk, on, ([], tt, refl))
+are_run state k (s ∷ ss) (resumes, serves, later) disk on =
+    let next = are_run state s.left ss later disk on in
     let before = resumes (serves.moves.breaks next.0).0 in
     let start = before.2 (serves.moves.clean next.1) in
-    (before.0, start.0, (start.1, next.1, serves, next.2))
+    let one = subst (λ w. Reaches w s.visit.exchanges (state s.left).world) start.1 (serves.moves.reaches next.1) in
+    (before.0, start.0, Reaches-append _ _ _ s.visit.exchanges (exchanges_of (visits_of ss)) one next.2)
 
 -- one step
 
@@ -35,7 +36,8 @@ one_unseen c w v r a good (inr none) = λ member other office. ap (λ u. view u 
 
 -- what the laws of good worlds and of results say
 abbrev pub RunsGood : Type 0
-RunsGood = (w : World) (asked : List Request) (told : List Answer) (after : List World) → Good w → Run w asked told after → AllByRecursion Good after
+RunsGood = (w : World) (asked : List Request) (told : List Answer) (after : List World) → Good w → Run w asked told after
+    → AllByRecursion Good after
 
 abbrev pub StepsBest : Type 0
 StepsBest =
@@ -43,7 +45,8 @@ StepsBest =
     → is_published v.phase ≡ true → HasBest v
 
 abbrev pub RunsBest : Type 0
-RunsBest = (w : World) (asked : List Request) (told : List Answer) (after : List World) → ShowsBest w → Run w asked told after → AllByRecursion ShowsBest after
+RunsBest = (w : World) (asked : List Request) (told : List Answer) (after : List World) → ShowsBest w → Run w asked told after
+    → AllByRecursion ShowsBest after
 
 not_published : (w v : World) → v ≡ w → is_published w.phase ≡ false → is_published v.phase ≡ true → HasBest v
 not_published w v same off on = absurd (both_ways (is_published w.phase) off (ap (λ (u : World). is_published u.phase) (sym same) ∙ on))
@@ -89,26 +92,22 @@ upheld run_good step_best run_best w es worlds good run =
       best = λ first. run_best w _ _ worlds first run;
     }
 
--- the main promise of visits from a good world
-pub has_promise : RunsGood → StepsBest → RunsBest → (w : World) (visits : List Visit) → Good w → AreVisits w visits
-    → HasPromise w visits
-has_promise run_good step_best run_best w visits good are =
-    let run = whole_run w visits are in (
-      are,
-      upheld run_good step_best run_best w (exchanges_of visits) (worlds_of visits) good run,
-      λ v fs later other. same_texts w (exchanges_of visits) (worlds_of visits) v fs later run other,
-    )
+-- the main promise of a run from a good world
+pub has_promise : RunsGood → StepsBest → RunsBest → (w : World) (es : List Exchange) (worlds : List World) → Good w
+    → Run w (requests_of es) (replies_of es) worlds → HasPromise w es worlds
+has_promise run_good step_best run_best w es worlds good run =
+    (upheld run_good step_best run_best w es worlds good run, like_all w es worlds run)
 
 pub headline : RunsGood → StepsBest → RunsBest
-    → {K : Type 0} (state : K → KeeperState) (k : K) (ss : List (Session K)) → IsServed state k ss → MainPromise state (state k).world ss
+    → {K : Type 0} (state : K → KeeperState) (k : K) (ss : List (Session K)) → IsServed state k ss → MainPromise state k ss
 headline run_good step_best run_best state k ss served =
-    let a = are_visits state k ss (stays_served state k ss served.served served.disk served.clean).2 in
-    (a.0, a.1, has_promise run_good step_best run_best (state k).world a.0 served.good a.2)
+    let (disk, clean, (worlds, run, same)) = are_run state k ss served.served served.disk served.clean in
+    (worlds, has_promise run_good step_best run_best (state k).world (exchanges_of (visits_of ss)) worlds served.good run, same)
 
 -- one stream more
 
 one_more : {K : Type 0} (state : K → KeeperState) (k : K) (ss : List (Session K)) (s : Session K)
-    → AreServedOn state k ss → left_by k ss ≡ s.old → IsSession state s
+    → AreServedOn state k ss → left_by k ss ≡ s.found → IsSession state s
     → AreServedOn state k (ss ++ s ∷ [])
 one_more state k [] s served same did = (
   λ now. (
@@ -119,28 +118,39 @@ one_more state k [] s served same did = (
   did,
   tt,
 )
-one_more state k (x ∷ ss) s (first, told, rest) same did = (first, told, one_more state x.new ss s rest same did)
+one_more state k (x ∷ ss) s (first, told, rest) same did = (first, told, one_more state x.left ss s rest same did)
 
-left_more : {K : Type 0} (k : K) (ss : List (Session K)) (s : Session K) → left_by k (ss ++ s ∷ []) ≡ s.new
+left_more : {K : Type 0} (k : K) (ss : List (Session K)) (s : Session K) → left_by k (ss ++ s ∷ []) ≡ s.left
 left_more k [] s = refl
-left_more k (x ∷ ss) s = left_more x.new ss s
+left_more k (x ∷ ss) s = left_more x.left ss s
 
-of_more : {K : Type 0} (ss : List (Session K)) (xs ts : List (List ℕ)) (s : Session K) (t : List ℕ)
-    → AreSessionsOf ss xs ts
-    → s.before ≡ Some [] → s.after ≡ Some t → IsEnded s.finish
-    → AreSessionsOf (ss ++ s ∷ []) (xs ++ s.bytes ∷ []) (ts ++ t ∷ [])
-of_more [] [] [] s t are none all ended = (refl, none, all, ended, tt)
-of_more (r ∷ ss) (x ∷ xs) (u ∷ ts) s t are none all ended = (are.0, are.1, are.2, are.3, of_more ss xs ts s t are.4 none all ended)
-of_more _ _ _ s t are none all ended = absurd are
+whole_more : {K : Type 0} (ss : List (Session K)) (xs ts : List (List ℕ)) (s : Session K) (x t : List ℕ) (end : Last)
+    → ServeWhole (visits_of ss) xs ts → s.visit.stream ≡ Some (record { bytes = x; written = t; finish = Ended end })
+    → ServeWhole (visits_of (ss ++ s ∷ [])) (xs ++ x ∷ []) (ts ++ t ∷ [])
+whole_more [] [] [] s x t end are is = (end, is, tt)
+whole_more (r ∷ ss) (y ∷ xs) (u ∷ ts) s x t end are is = (are.0, are.1, whole_more ss xs ts s x t end are.2 is)
+whole_more _ _ _ s x t end are is = absurd are
 
 pub each_more : {K : Type 0} (state : K → KeeperState) (k old new : K) (xs ts : List (List ℕ)) (x t : List ℕ) (count : ℕ) (ending : Last)
     → ServesEach state k old xs ts
     → SomeSession state old new (Some []) (Some t) count (Ended ending) x → ServesEach state k new (xs ++ x ∷ []) (ts ++ t ∷ [])
-each_more {K = K} state k old new xs ts x t count ending (ss, served, same, are) (es, did) =
-    let s : Session K = record { old = old; new = new; bytes = x; before = Some []; after = Some t; count = count; finish = Ended ending; exchanges = es } in
-    (ss ++ s ∷ [], one_more state k ss s served same did, left_more k ss s, of_more ss xs ts s t are refl refl tt)
+each_more {K = K} state k old new xs ts x t count ending (ss, served, same, are) one =
+    let s : Session K = record {
+      found = old;
+      left = new;
+      visit = record {
+        exchanges = one.exchanges;
+        stream = Some (record { bytes = x; written = one.written; finish = Ended ending });
+      };
+    } in (
+      ss ++ s ∷ [],
+      one_more state k ss s served same one.session,
+      left_more k ss s,
+      whole_more ss xs ts s x t ending are (ap (λ w. Some (record { bytes = x; written = w; finish = Ended ending })) (sym one.adds)),
+    )
 
-pub each_next : {K A B : Type 0} (state : K → KeeperState) (k old new : K) (f : A → List ℕ) (h : B → List ℕ) (xs : List A) (i : ℕ) (d : A) (ts : List B) (t : B)
+pub each_next : {K A B : Type 0} (state : K → KeeperState) (k old new : K) (f : A → List ℕ) (h : B → List ℕ) (xs : List A) (i : ℕ) (d : A)
+    (ts : List B) (t : B)
     (count : ℕ) (ending : Last) → i < length xs → ServesEach state k old (map f (take i xs)) (map h ts)
     → SomeSession state old new (Some []) (Some (h t)) count (Ended ending) (f (get_or xs i d))
     → ServesEach state k new (map f (take (i + 1) xs)) (map h (ts ++ t ∷ []))

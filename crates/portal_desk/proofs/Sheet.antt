@@ -40,19 +40,25 @@ free_filled (Office o) false d e = (refl, tt)
 free_filled _ false d e = (refl, tt)
 
 student_filled : (v : StudentSees) (ask : AbstractCall) → IsFilled (Student v) (to_student v ask)
-student_filled v (AbstractCall.SetChoices list) = only_filled (Student v) (is_choosing v.phase) _ (free_filled (Student v) (is_none v.result) _ (unless_filled (Student v) (choice_fault v.catalogue list) _ (refl, tt)))
+student_filled v (AbstractCall.SetChoices list) =
+    only_filled (Student v) (is_choosing v.phase) _
+    (free_filled (Student v) (is_none v.result) _ (unless_filled (Student v) (choice_fault v.catalogue list) _ (refl, tt)))
 student_filled v AbstractCall.Result = only_filled (Student v) (has_result v.round v.phase) _ (refl, tt)
 student_filled v _ = (refl, tt)
 
 lecturer_filled : (v : LecturerSees) (ask : AbstractCall) → IsFilled (Lecturer v) (to_lecturer v ask)
 lecturer_filled v AbstractCall.Applicants = only_filled (Lecturer v) (is_from_ranking v.phase) _ (refl, tt)
 lecturer_filled v AbstractCall.ShowRanking = only_filled (Lecturer v) (is_from_ranking v.phase) _ (refl, tt)
-lecturer_filled v (AbstractCall.SetRanking list) = only_filled (Lecturer v) (is_ranking v.phase) _ (unless_filled (Lecturer v) (ranking_fault v.applicants list) _ (refl, tt))
+lecturer_filled v (AbstractCall.SetRanking list) =
+    only_filled (Lecturer v) (is_ranking v.phase) _ (unless_filled (Lecturer v) (ranking_fault v.applicants list) _ (refl, tt))
 lecturer_filled v AbstractCall.Result = only_filled (Lecturer v) (has_result v.round v.phase) _ (refl, tt)
 lecturer_filled v _ = (refl, tt)
 
 idle_or_applied : (v : OfficeSees) (b : Bool) (body : Data) (change : Change)
-    → IsFilled (Office v) (record { reply = record { status = 200; allow = []; body = Json body }; act = if b then Nothing else Apply change })
+    → IsFilled (Office v) (record {
+      reply = record { status = 200; allow = []; body = Json body };
+      act = if b then Nothing else Apply change;
+    })
 idle_or_applied v true body change = (refl, tt)
 idle_or_applied v false body change = (refl, tt)
 
@@ -91,14 +97,18 @@ moves_filled v phase None = moved_filled v v.phase phase
 moves_filled v phase (Some round) = named_filled v v.round round phase
 
 office_filled : (v : OfficeSees) (ask : AbstractCall) → IsFilled (Office v) (to_office v ask)
-office_filled v (AbstractCall.AddLecturers rows) = only_filled (Office v) (is_open_to_rolls v.round v.phase) _ (added_filled v Lecturers (take_rows (lecturer_roll v) 1 v.lecturers rows))
-office_filled v (AbstractCall.AddProjects rows) = only_filled (Office v) (is_open_to_rolls v.round v.phase) _ (added_filled v Projects (take_rows (project_roll v) 1 v.projects rows))
-office_filled v (AbstractCall.AddStudents rows) = only_filled (Office v) (is_open_to_rolls v.round v.phase) _ (added_filled v Students (take_rows (student_roll v) 1 v.students rows))
+office_filled v (AbstractCall.AddLecturers rows) =
+    only_filled (Office v) (is_open_to_rolls v.round v.phase) _ (added_filled v Lecturers (take_rows (lecturer_roll v) 1 v.lecturers rows))
+office_filled v (AbstractCall.AddProjects rows) =
+    only_filled (Office v) (is_open_to_rolls v.round v.phase) _ (added_filled v Projects (take_rows (project_roll v) 1 v.projects rows))
+office_filled v (AbstractCall.AddStudents rows) =
+    only_filled (Office v) (is_open_to_rolls v.round v.phase) _ (added_filled v Students (take_rows (student_roll v) 1 v.students rows))
 office_filled v (AbstractCall.Move phase round) = moves_filled v phase round
 office_filled v AbstractCall.Allocation = only_filled (Office v) (has_result v.round v.phase) _ (refl, tt)
 office_filled v AbstractCall.AllocationCsv = only_filled (Office v) (has_result v.round v.phase) _ (refl, tt)
 office_filled v AbstractCall.Report = only_filled (Office v) (has_result v.round v.phase) _ (refl, tt)
-office_filled v AbstractCall.FillRankings = only_filled (Office v) (is_ranking v.phase) _ (idle_or_applied v (is_empty v.still_to_rank) _ Fill)
+office_filled v AbstractCall.FillRankings =
+    only_filled (Office v) (is_ranking v.phase) _ (idle_or_applied v (is_empty v.still_to_rank) _ Fill)
 office_filled v _ = (refl, tt)
 
 pub decision_filled : (v : Sight) (ask : AbstractCall) → IsFilled v (decision v ask)
@@ -108,7 +118,9 @@ decision_filled (Lecturer v) ask = lecturer_filled v ask
 decision_filled (Student v) ask = student_filled v ask
 
 -- what is decided once the sheet is written
-pub whole_decision : (v : Sight) (ask : AbstractCall) (d e : Decision) (reply : Answer) → d ≡ emptied (decision v ask) → reply ≡ with_sheet v d.act d.reply → e ≡ record { reply = reply; act = d.act } → e ≡ decision v ask
+pub whole_decision : (v : Sight) (ask : AbstractCall) (d e : Decision) (reply : Answer) → d ≡ emptied (decision v ask)
+    → reply ≡ with_sheet v d.act d.reply → e ≡ record { reply = reply; act = d.act } → e ≡ decision v ask
 whole_decision v ask d e reply is told made =
-    made ∙ (ap (λ r. record { reply = r; act = d.act }) (told ∙ ap (λ (x : Decision). with_sheet v x.act x.reply) is ∙ (decision_filled v ask).0)
+    made ∙ (ap (λ r. record { reply = r; act = d.act })
+    (told ∙ ap (λ (x : Decision). with_sheet v x.act x.reply) is ∙ (decision_filled v ask).0)
     ∙ ap (λ (x : Decision). record { reply = (decision v ask).reply; act = x.act }) is)

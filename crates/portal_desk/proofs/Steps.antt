@@ -1,7 +1,7 @@
 -- One exchange more.
 use Rattle.portal_desk.proofs.Base.{◌≡◌, ℕ, ◌-◌, Bool, true, false, List, [], ◌∷◌, ◌++◌, length, refl, sym, ap, ◌∙◌}
 use Rattle.portal_desk.proofs.Base.{subst, arith, append-nil, append_assoc, World, Request, Run, AllAnswered, end_of}
-use Rattle.portal_desk.proofs.Base.{RequestContent, Opens, whole, request_of, closes_at, Rest, more, shut, Leads}
+use Rattle.portal_desk.proofs.Base.{RequestContent, Opens, Whole, request_of, closes_at, Rest, More, Shut, Leads}
 use Rattle.portal_desk.proofs.Base.{Exchange}
 use Rattle.portal_desk.proofs.Base.{requests_of, replies_of, text, exchange_text, Reaches}
 use Rattle.std.specs.Bool.{MatchBool}
@@ -36,21 +36,22 @@ answered_apart (e ∷ es) fs all = let rest = answered_apart es fs all.1 in ((al
 
 -- what is left after a request
 abbrev pub after_one : Bool → RequestContent → List ℕ → Rest
-after_one true a after = shut a.close
-after_one false a after = more after
+after_one true a after = Shut a.close
+after_one false a after = More after
 
 last_one : (b : Bool) (a : RequestContent) (after : List ℕ)
-    → MatchBool b ((◌≡◌ {A = List Request} [] []) × (after_one b a after ≡ shut a.close)) (after_one b a after ≡ more after)
+    → MatchBool b ((◌≡◌ {A = List Request} [] []) × (after_one b a after ≡ Shut a.close)) (after_one b a after ≡ More after)
 last_one true a after = (refl, refl)
 last_one false a after = refl
 
 goes_on : (b : Bool) (close : Bool) (rs : List Request) (rest : List ℕ) (P Q : Type 0) (R : Type 0)
-    → MatchBool b ((rs ≡ []) × (more rest ≡ shut close)) P → (P → Q) → MatchBool b R Q
+    → MatchBool b ((rs ≡ []) × (More rest ≡ Shut close)) P → (P → Q) → MatchBool b R Q
 goes_on true close rs rest P Q R (e, f) go = absurd (cc)
 goes_on false close rs rest P Q R p go = go p
 
 pub Leads-snoc : (left n : ℕ) (bytes : List ℕ) (es : List Exchange) (rest : List ℕ) (e : Exchange) (a : RequestContent) (after : List ℕ)
-    → Leads left bytes (requests_of es) (more rest) → Opens rest (whole a after) → n ≡ left - length es → e.request ≡ request_of (closes_at n a) a
+    → Leads left bytes (requests_of es) (More rest) → Opens rest (Whole a after) → n ≡ left - length es
+    → e.request ≡ request_of (closes_at n a) a
     → Leads left bytes (requests_of (es ++ e ∷ [])) (after_one (closes_at n a) a after)
 Leads-snoc left n bytes [] rest e a after leads opens at is =
     let same : n ≡ left = omega (arith, at) in
@@ -58,7 +59,7 @@ Leads-snoc left n bytes [] rest e a after leads opens at is =
     subst (λ m. Leads m bytes (e.request ∷ []) (after_one (closes_at n a) a after)) same (
       a,
       after,
-      subst (λ b. Opens b (whole a after)) whole_left opens,
+      subst (λ b. Opens b (Whole a after)) whole_left opens,
       is,
       last_one (closes_at n a) a after,
     )

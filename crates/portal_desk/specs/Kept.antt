@@ -12,7 +12,7 @@ use Rattle.portal_desk.specs.declared.served.Cause.{Cause}
 use Rattle.portal_desk.specs.declared.served.Cause.TheVariants as cause
 
 -- a desk: what keeps the world, and whether the store has failed
-pub record Kept (K : Type 0) : Type 0 where
+pub record DeskState (K : Type 0) : Type 0 where
   pub keeper : K
   pub failed : Bool
 
@@ -100,7 +100,7 @@ IsMoved old new = (es : List Exchange) × Moves old new es
 
 -- what a desk did: some exchanges moved its keeper, and it fails exactly if a fault of the store is
 -- counted
-pub record Worked {K : Type 0} (state : K → KeeperState) (old new : Kept K) : Type 0 where
+pub record Worked {K : Type 0} (state : K → KeeperState) (old new : DeskState K) : Type 0 where
   pub moves : IsMoved (state old.keeper) (state new.keeper)
   pub counts : FailsByCount old.failed new.failed (state old.keeper).faults (state new.keeper).faults
 

@@ -3,17 +3,17 @@ use Rattle.std.specs.Prelude.{ℕ, Bool, ◌≡◌, ◌⊎◌, ◌||◌, true, L
 use Rattle.std.specs.Prelude.{Result, Ok, Err}
 use Rattle.std.specs.Io.KnownBytes.{Appends}
 use Rattle.portal_rules.specs.Run.{unavailable}
-use Rattle.portal_frame.specs.Stream.{RequestContent, Opens, whole}
-use Rattle.portal_wire.specs.Conversation.{connection_limit, reply_text, Rest, more, Leads, Last, last, Ends, Requests}
+use Rattle.portal_frame.specs.Stream.{RequestContent, Opens, Whole}
+use Rattle.portal_wire.specs.Conversation.{connection_limit, reply_text, Rest, More, Leads, Last, last, Ends, Requests}
 use Rattle.portal_wire.specs.Conversation.{Exchange, requests_of, text}
 use Rattle.portal_desk.specs.declared.served.Cause.{Cause}
 use Rattle.portal_desk.specs.declared.served.Cause.TheVariants as cause
 use Rattle.portal_desk.specs.declared.served.Served.{Served}
 use Rattle.portal_desk.specs.declared.served.ServeFault.{ServeFault}
 use Rattle.portal_rules.specs.Keeping.{KeeperState}
-use Rattle.portal_desk.specs.Kept.{Kept, Moves, Worked, TakesAtMost, AtFirst, taken_limit}
+use Rattle.portal_desk.specs.Kept.{DeskState, Moves, Worked, TakesAtMost, AtFirst, taken_limit}
 
--- how `serve` ends: as the stream does, or stopped (cause, has the store failed, unread bytes)
+-- how serving a stream ends: as the stream does, or stopped (cause, has the store failed, unread bytes)
 pub data Finish : Type 0 where
   Ended : Last → Finish
   Stopped : Cause → Bool → Option (List ℕ) → Finish
@@ -46,8 +46,8 @@ CutsClosing es rest written =
 -- the bytes that were read hold no further whole request, and the others are still unread
 abbrev pub AllSeen : Rest → Option (List ℕ) → Type 0
 AllSeen rest left =
-    (held unread : List ℕ) × (rest ≡ more (held ++ unread)) × (left ≡ Some unread)
-    × ((a : RequestContent) → (after : List ℕ) → ¬ (Opens held (whole a after)))
+    (held unread : List ℕ) × (rest ≡ More (held ++ unread)) × (left ≡ Some unread)
+    × ((a : RequestContent) → (after : List ℕ) → ¬ (Opens held (Whole a after)))
 
 -- what is written, by the cause of the fault
 abbrev pub Wrote : Cause → Bool → List Exchange → Rest → Option (List ℕ) → List ℕ → Type 0
@@ -65,26 +65,45 @@ TellsExchanges (Ended ending) bytes es written =
 TellsExchanges (Stopped why failed left) bytes es written =
     (rest : Rest) × Leads connection_limit bytes (requests_of es) rest × Wrote why failed es rest left written
 
--- a call of `serve`: the keeper before and after it, the stream, what the sink holds before and
--- after it, if that is known, the count of requests, how the call ends, and its exchanges
-pub record Session (K : Type 0) : Type 0 where
-  pub old : K
-  pub new : K
+-- a stream: what is read and written, and how serving it ends
+pub record Stream : Type 0 where
   pub bytes : List ℕ
-  pub before : Option (List ℕ)
-  pub after : Option (List ℕ)
-  pub count : ℕ
-  pub finish : Finish
-  pub exchanges : List Exchange
-
--- the exchanges serve the stream, or a first part of it: they are counted, have moved the keeper,
--- and are told by what is written
-pub record IsSession {K : Type 0} (state : K → KeeperState) (s : Session K) : Type 0 where
-  pub moves : Moves (state s.old) (state s.new) s.exchanges
-  pub counted : s.count ≡ length s.exchanges
   pub written : List ℕ
-  pub adds : Appends s.before s.after written
-  pub tells : TellsExchanges s.finish s.bytes s.exchanges written
+  pub finish : Finish
+
+-- requests with their replies, and the stream that they came in, if its bytes are known
+pub record Visit : Type 0 where
+  pub exchanges : List Exchange
+  pub stream : Option Stream
+
+-- if the bytes are known, what is written tells the requests
+abbrev pub Tells : Visit → Type 0
+Tells v = IfSome v.stream (λ s. TellsExchanges s.finish s.bytes v.exchanges s.written)
+
+-- a visit, with what it finds and what it leaves: a keeper, or what files hold
+pub record Session (X : Type 0) : Type 0 where
+  pub found : X
+  pub left : X
+  pub visit : Visit
+
+-- the exchanges have moved the keeper, and are told by what is written
+pub record IsSession {K : Type 0} (state : K → KeeperState) (s : Session K) : Type 0 where
+  pub moves : Moves (state s.found) (state s.left) s.visit.exchanges
+  pub tells : Tells s.visit
+
+-- some exchanges serve these bytes, or a first part of them: they are counted, and what is written is
+-- added to what the sink holds, if that is known
+pub record SomeSession {K : Type 0} (state : K → KeeperState) (old new : K) (before after : Option (List ℕ))
+    (count : ℕ) (finish : Finish) (bytes : List ℕ) : Type 0 where
+  pub exchanges : List Exchange
+  pub counted : count ≡ length exchanges
+  pub written : List ℕ
+  pub adds : Appends before after written
+  pub session : IsSession state (record {
+    found = old;
+    left = new;
+    visit = record { exchanges = exchanges; stream = Some (record { bytes = bytes; written = written; finish = finish }) };
+  })
 
 -- how many requests a desk that had failed takes: the first one ends the call
 abbrev pub TakesFirst : Result Served ServeFault → Type 0
@@ -92,34 +111,25 @@ TakesFirst (Ok served) = served.requests ≡ 0
 TakesFirst (Err fault) = AtFirst fault.cause fault.requests
 
 -- whether a desk has failed, around a fault: one of the source leaves it so, one of the store fails it
-abbrev pub SettlesBy : Cause → Bool → Bool → Type 0
-SettlesBy cause.Read old new = new ≡ old
-SettlesBy cause.Store old new = new ≡ true
-SettlesBy _ old new = Unit {0}
+abbrev pub FailsBy : Cause → Bool → Bool → Type 0
+FailsBy cause.Read old new = new ≡ old
+FailsBy cause.Store old new = new ≡ true
+FailsBy _ old new = Unit {0}
 
 -- the same around a call; one that serves its stream to the end leaves it so
 abbrev pub Settles : Result Served ServeFault → Bool → Bool → Type 0
 Settles (Ok served) old new = new ≡ old
-Settles (Err fault) old new = SettlesBy fault.cause old new
+Settles (Err fault) old new = FailsBy fault.cause old new
 
 -- what a call of `serve` does, with this result: `source` and `left` are what the source has to give
 -- before and after it, `before` and `after` what the sink holds, where that is known
-pub record ServesOne {K : Type 0} (state : K → KeeperState) (r : Result Served ServeFault) (old new : Kept K)
+pub record ServesOne {K : Type 0} (state : K → KeeperState) (r : Result Served ServeFault) (old new : DeskState K)
     (source left before after : Option (List ℕ)) : Type 0 where
   -- the desk moves, whatever is known of the bytes
   pub worked : Worked state old new
   -- if the bytes are known, the exchanges are those of the stream
-  pub served : IfSome source (λ bytes. (exchanges : List Exchange)
-      × IsSession state (record {
-        old = old.keeper;
-        new = new.keeper;
-        bytes = bytes;
-        before = before;
-        after = after;
-        count = count_of r;
-        finish = finish_of r new.failed left;
-        exchanges = exchanges;
-      }))
+  pub served : IfSome source
+      (SomeSession state old.keeper new.keeper before after (count_of r) (finish_of r new.failed left))
   -- the source gives no more than so many of the longest requests
   pub taken : TakesAtMost taken_limit source left
   -- a desk that had failed is as before, and ends the stream at its first request

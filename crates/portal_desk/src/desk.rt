@@ -26,9 +26,9 @@ pub struct Desk<K: Keeper> {
 
 impl<K: Keeper> Model for Desk<K> {
     ghost use Rattle.portal_rules.specs.Keeping.{KeepsGood};
-    ghost use Rattle.portal_desk.specs.Kept.{Kept};
+    ghost use Rattle.portal_desk.specs.Kept.{DeskState};
 
-    ghost Value = { Kept K };
+    ghost Value = { DeskState K };
 
     ghost view = { λ desk. record { keeper = desk.keeper; failed = desk.failed } };
 

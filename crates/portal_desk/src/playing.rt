@@ -4,7 +4,7 @@ ghost use Rattle.std.specs.Prelude.{◌≡◌, IfOk, OnOk, OnErr, IfErr};
 ghost use Rattle.spa_model.specs.Spa.{IsMatching};
 ghost use Rattle.portal_rules.specs.Answer as answer;
 ghost use Rattle.portal_rules.specs.Answer.{Answer, Publish, HasWholeNumbers};
-ghost use Rattle.portal_rules.specs.Keeping.{Changes, CountsFaults, IsAlive, IsSettled, KeepsGood, Looks, Uses};
+ghost use Rattle.portal_rules.specs.Keeping.{Changes, CountsFaults, IsAlive, IsSettled, KeepsGood, Looks, AfterCall};
 ghost use Rattle.portal_rules.specs.Meaning.{call_model, decision_model};
 ghost use Rattle.portal_rules.specs.Meaning.{act_model, reply_model, body_model};
 ghost use Rattle.portal_rules.specs.Good.{Good, CanPublish};
@@ -171,7 +171,7 @@ pub fn play<K: Keeper>(
     requires good { KeepsGood (K.state keeper.old) }
     requires form { HasForm (call_model call.now) }
     ensures uses { let old = K.state keeper.old in
-        Uses result old (K.state keeper.new) (λ w. (old.broken → ⊥) × (old.clean
+        AfterCall result old (K.state keeper.new) (λ w. (old.broken → ⊥) × (old.clean
         → (reply : Answer) × Step old.world code.now (call_model call.now) reply w)) }
     ensures alive { OnOk result (IsAlive (K.state keeper.new)) }
     ensures step { IfOk result (λ r. (K.state keeper.new).clean

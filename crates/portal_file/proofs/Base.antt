@@ -1,31 +1,15 @@
 -- What a call that succeeded ensures.
 use Rattle.std.proofs.Common.{Ok, Err, Result, OnOk, IfOk}
 use Rattle.std.specs.Prelude.{IfErr, MatchResult}
+pub use Rattle.std.proofs.lemmas.Result.{IfOk-weaker as if_ok, IfErr-weaker as if_err, on_ok_weaker as on_ok}
 use Rattle.sqlite_disk.specs.declared.Files.{Files}
 use Rattle.portal_file.specs.Closing.{IfStands}
 use Rattle.portal_file.specs.declared.closing.NotCopied.{NotCopied}
-
-pub on_ok : {A E : Type 0} (r : Result A E) (P Q : Type 0) → (P → Q) → OnOk r P → OnOk r Q
-on_ok (Ok x) P Q more h = more h
-on_ok (Err e) P Q more h = tt
-
-pub if_ok : {A E : Type 0} (r : Result A E) (P Q : A → Type 0) → ((x : A) → P x → Q x) → IfOk r P → IfOk r Q
-if_ok (Ok x) P Q more h = more x h
-if_ok (Err e) P Q more h = tt
-
-pub if_ok_both : {A E : Type 0} (r : Result A E) (P Q R : A → Type 0) → ((x : A) → P x → Q x → R x) → IfOk r P
-    → IfOk r Q → IfOk r R
-if_ok_both (Ok x) P Q R more h k = more x h k
-if_ok_both (Err e) P Q R more h k = tt
 
 pub if_ok_on : {A E : Type 0} (r : Result A E) (L : Type 0) (P Q : A → Type 0) → ((x : A) → L → P x → Q x) → OnOk r L
     → IfOk r P → IfOk r Q
 if_ok_on (Ok x) L P Q more h k = more x h k
 if_ok_on (Err e) L P Q more h k = tt
-
-pub if_err : {A E : Type 0} (r : Result A E) (P Q : E → Type 0) → ((e : E) → P e → Q e) → IfErr r P → IfErr r Q
-if_err (Ok x) P Q more h = tt
-if_err (Err e) P Q more h = more e h
 
 pub if_stands_both : {D : Type 0} (closed : Result (Files D) (NotCopied D)) (P Q R : Files D → Type 0)
     → ((files : Files D) → P files → Q files → R files)

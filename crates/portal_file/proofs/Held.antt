@@ -1,5 +1,5 @@
 -- From what the files hold to what a connection shows, and from what a connection leaves to what the files hold.
-use Rattle.std.proofs.Common.{◌≡◌, Option, List, [], length, IsTrue, Result, Ok, Err, IfOk, refl, sym, ap, subst, ◌∙◌, arith}
+use Rattle.std.proofs.Common.{◌≡◌, List, [], length, IsTrue, Result, Ok, Err, IfOk, refl, sym, ap, subst, ◌∙◌, arith}
 use Rattle.std.proofs.Common.{inl, inr}
 use Rattle.std.proofs.Math.Logic.{∥∥₁_elim, ∥∥₁_map}
 use Rattle.sqlite_disk.specs.declared.Disk.{Ghosts}
@@ -18,14 +18,14 @@ use Rattle.sqlite.specs.Start.{FindsIn}
 use Rattle.sqlite.specs.Files.{AreFoundIn, HoldsDatabase, file_state}
 use Rattle.sqlite.proofs.Theorems.{opens_again}
 use Rattle.portal_rules.specs.World.{World}
-use Rattle.portal_wire.specs.Conversation.{Exchange}
+use Rattle.portal_desk.specs.Session.{Visit}
 use Rattle.sqlite.specs.Order.{Row}
 use Rattle.sqlite_trees.specs.Objects.{catalog_tree}
 use Rattle.sqlite_catalog.specs.Listing.{Lists}
 use Rattle.sqlite_catalog.proofs.ReadLemmas.{lists_once}
 use Rattle.portal_tables.specs.Tables.{no_schema}
 use Rattle.portal_tables.proofs.Owned.{one_schema}
-use Rattle.portal_file.specs.Tables.{Stands, Stream, Version, First, Current, Either, Work}
+use Rattle.portal_file.specs.Tables.{Stands, Version, First, Current, Either, FileEffect}
 use Rattle.portal_file.specs.inner.Connected.{AllStand, IsUnlimited, Shows, work_of}
 use Rattle.portal_file.specs.Files.{Holds, HoldsSome, HoldsTrees, ShownIn}
 use Rattle.portal_file.specs.Chain.{OverClosed, OverFiles, work_over}
@@ -93,22 +93,25 @@ left_holds version s left Kind stand holds =
     let r : (w : World) × Kind w × Holds version left w = (t.0, t.1, ∣ is ∣₁) in
     r))
 
-module _ {D : Type 0} {g : Ghosts D} (it : FileStore D g) (numbered : IsTrue (view it).is_numbered) (sound : AreDatabases (recovers it)) (s : State) (quiet : (db : Trees) → recovers it db → s.may_leave db) where
+module _ {D : Type 0} {g : Ghosts D} (it : FileStore D g) (numbered : IsTrue (view it).is_numbered) (sound : AreDatabases (recovers it))
+    (s : State) (quiet : (db : Trees) → recovers it db → s.may_leave db) where
   pub left_of : (left : Image) → (state it).may_leave left → HoldsLeft s left
-  left_of left may = ∥∥₁_map (opens_again it numbered sound left may) (λ h. let r : (db : Trees) × s.may_leave db × HoldsDatabase left db = (h.0, quiet h.0 h.1, h.2) in r)
+  left_of left may = ∥∥₁_map (opens_again it numbered sound left may)
+      (λ h. let r : (db : Trees) × s.may_leave db × HoldsDatabase left db = (h.0, quiet h.0 h.1, h.2) in r)
 
 -- what is said of work over a connection, of work over its files
 
 -- what work finds and leaves is found and left by other work
-pub record Carries (a b : Work) : Type 1 where
+pub record Carries (a b : FileEffect) : Type 1 where
   pub finds : (version : Version) (w : World) → b.finds version w → a.finds version w
   pub is_new : b.is_new → a.is_new
   pub begins : (Kind : Database → Type 0) → a.begins Kind → b.begins Kind
   pub ends : (Comes : Database → Trees → Type 0) → a.ends Comes → b.ends Comes
   pub leaves : (version : Version) (Kind : World → Type 0) → a.leaves version Kind → b.leaves version Kind
-  pub serves : (es : List Exchange) (stream : Option Stream) → a.serves es stream → b.serves es stream
+  pub serves : (v : Visit) → a.serves v → b.serves v
 
-module _ {D : Type 0} {g : Ghosts D} (found : Image) (first last : Held (FileStore D g)) (opened : OpensOver found first) (files : Files D) (comes : ComesOf (file_state last) (AreClean g files.log files.db) (outcomes g files.log files.db)) where
+module _ {D : Type 0} {g : Ghosts D} (found : Image) (first last : Held (FileStore D g)) (opened : OpensOver found first) (files : Files D)
+    (comes : ComesOf (file_state last) (AreClean g files.log files.db) (outcomes g files.log files.db)) where
   carries : HasCleanDisk (file_state first) → AreClean g files.log files.db
       → Carries (work_of (file_state first) (file_state last)) (work_over found (outcomes g files.log files.db))
   carries early honest =
@@ -125,24 +128,22 @@ module _ {D : Type 0} {g : Ghosts D} (found : Image) (first last : Held (FileSto
         begins = λ Kind kind.
             let r : (db : Database) × ShownIn found db × Kind db = (old.now, shown, kind free) in ∣ r ∣₁;
         ends = λ Comes so.
-            let r : (db : Database) × ShownIn found db × ((left : Image) → outcomes g files.log files.db left → HoldsTrees left (Comes db)) = (
+            let r : (db : Database) × ShownIn found db
+            × ((left : Image) → outcomes g files.log files.db left → HoldsTrees left (Comes db)) = (
               old.now,
               shown,
               λ left may. ∥∥₁_map (comes.holds honest left may) (λ h.
                   let t : (t : Trees) × Comes old.now t × HoldsDatabase left t = (h.0, so free h.0 h.1, h.2) in t),
             ) in ∣ r ∣₁;
         leaves = λ version Kind stand left may. left_holds version new left Kind stand (comes.holds honest left may);
-        serves = λ es stream turn left may. record {
-          stops = λ w holds. left_holds Either new left _ (turn.stops w (finds Either w holds))
+        serves = λ v turn left may. record {
+          reaches = λ w holds. left_holds Either new left _ (turn.reaches w (finds Either w holds))
               (comes.holds honest left may);
-          turns = λ w holds all.
-              let t = turn.turns w (finds Either w holds) all in
-              (t.0, t.1, left_holds Either new left _ t.2 (comes.holds honest left may));
           tells = turn.tells;
         };
       }
 
-  over : (Does : Work → Type 0) → ((a b : Work) → Carries a b → Does a → Does b)
+  over : (Does : FileEffect → Type 0) → ((a b : FileEffect) → Carries a b → Does a → Does b)
       → WorksOver (file_state first) (file_state last) Does → OverFiles g found Does files
   over Does on works honest =
       let late = comes.clean honest in
@@ -150,8 +151,8 @@ module _ {D : Type 0} {g : Ghosts D} (found : Image) (first last : Held (FileSto
       (carries (works.disk late) honest)
       (works.did late)
 
-over_closed : {D : Type 0} (g : Ghosts D) (found : Image) (Does : Work → Type 0)
-    → ((a b : Work) → Carries a b → Does a → Does b) → (closed : Result (Files D) (NotCopied D))
+over_closed : {D : Type 0} (g : Ghosts D) (found : Image) (Does : FileEffect → Type 0)
+    → ((a b : FileEffect) → Carries a b → Does a → Does b) → (closed : Result (Files D) (NotCopied D))
     → RunsOver g found Does closed → OverClosed g found Does closed
 over_closed g found Does on (Ok files) ran = record {
   did = over found ran.first ran.last ran.opened files ran.closes.comes Does on ran.works;
@@ -163,8 +164,8 @@ over_closed g found Does on (Err left) ran = record {
 }
 
 -- what a job says of work over a connection, it says of the files, whatever it returned
-pub over_files : {D : Type 0} (g : Ghosts D) {O X : Type 0} (found : Image) (Does : O → Work → Type 0)
-    → ((out : O) (a b : Work) → Carries a b → Does out a → Does out b)
+pub over_files : {D : Type 0} (g : Ghosts D) {O X : Type 0} (found : Image) (Does : O → FileEffect → Type 0)
+    → ((out : O) (a b : FileEffect) → Carries a b → Does out a → Does out b)
     → (result : Result (O × Result (Files D) (NotCopied D)) X) → IfOk result (λ r. RunsOver g found (Does r.0) r.1)
     → IfOk result (λ r. OverClosed g found (Does r.0) r.1)
 over_files g found Does on result ran =
@@ -172,8 +173,8 @@ over_files g found Does on result ran =
 
 -- the same where the job lends two values, which end as these
 pub over_files_with : {D : Type 0} (g : Ghosts D) {O X R W : Type 0} (found : Image)
-    (Does : R → W → O → Work → Type 0)
-    → ((r : R) (w : W) (out : O) (a b : Work) → Carries a b → Does r w out a → Does r w out b)
+    (Does : R → W → O → FileEffect → Type 0)
+    → ((r : R) (w : W) (out : O) (a b : FileEffect) → Carries a b → Does r w out a → Does r w out b)
     → (r s : R) (v w : W) → r ≡ s → v ≡ w → (result : Result (O × Result (Files D) (NotCopied D)) X)
     → IfOk result (λ x. RunsOver g found (Does r v x.0) x.1)
     → IfOk result (λ x. OverClosed g found (Does s w x.0) x.1)

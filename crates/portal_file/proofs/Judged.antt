@@ -16,7 +16,7 @@ use Rattle.portal_tables.specs.declared.select.Query.TheVariants.{Office}
 use Rattle.portal_tables.proofs.Owned.{first_own}
 use Rattle.portal_tables.proofs.Repeated.{answers_still, refuses_still}
 use Rattle.portal_store.specs.Crash.{AfterCreating, AfterUpgrading, AreBarred, AreFirst, AreOpened, AreRefused}
-use Rattle.portal_store.specs.Crash.{AreUpgraded, Explains, LeavesUpgraded}
+use Rattle.portal_store.specs.Crash.{AreUpgraded, IsTrueOfQueries, LeavesUpgraded}
 use Rattle.portal_store.specs.Crash.{IsAnswered, IsRejected, Passes, RefusesOne, ShowsVersion, Suits, first_queries}
 use Rattle.portal_store.specs.Crash.{later_queries}
 use Rattle.portal_store.specs.World.{world_in, world_of}
@@ -65,8 +65,8 @@ module _ (s : State) (free : IsUnlimited s) where
     passes_later = passes_still Own later h.passes_later;
   }
 
-  explains_still : (fault : OpenFault) (Own : Type 0) (of : ℕ) (later : List Query) → Explains fault Own of later s
-      → Explains fault Own of later (opened_over s.now)
+  explains_still : (fault : OpenFault) (Own : Type 0) (of : ℕ) (later : List Query) → IsTrueOfQueries fault Own of later s
+      → IsTrueOfQueries fault Own of later (opened_over s.now)
   explains_still opening.NotPortal Own of later (inl one) = inl (one_still first_queries one)
   explains_still opening.NotPortal Own of later (inr (passes, inl none)) =
       inr (passes_still Own first_queries passes, inl (answers_still Office s (opened_over s.now) [] refl refl none))
@@ -74,7 +74,12 @@ module _ (s : State) (free : IsUnlimited s) where
       inr (passes_still Own first_queries passes, inr (shows_still of both.0, one_still later both.1))
   explains_still opening.OtherVersion Own of later (passes, h) = (
     passes_still Own first_queries passes,
-    record { row = h.row; rest = h.rest; shown = answers_still Office s (opened_over s.now) (h.row ∷ h.rest) refl refl h.shown; other = h.other },
+    record {
+      row = h.row;
+      rest = h.rest;
+      shown = answers_still Office s (opened_over s.now) (h.row ∷ h.rest) refl refl h.shown;
+      other = h.other;
+    },
   )
   explains_still opening.Damaged Own of later h = suits_still Own of later h
   explains_still opening.Store Own of later h = tt
@@ -143,7 +148,8 @@ upgrades_late old new fault = survives_weaker old new _ _ (λ clean db made. any
 
 -- what a stop before the work leaves are the tables that were found
 
-module _ (old : State) (settled : IsTrue old.is_open → old.now ≡ old.committed) (law : (db : Trees) → IsTrue old.is_open → old.may_leave db → db ≡ old.committed.trees) (free : IsUnlimited old) where
+module _ (old : State) (settled : IsTrue old.is_open → old.now ≡ old.committed)
+    (law : (db : Trees) → IsTrue old.is_open → old.may_leave db → db ≡ old.committed.trees) (free : IsUnlimited old) where
   pub same_before : (db : Trees) → old.may_leave db → IsSame old.now db
   same_before db was =
       law db free.is_open was ∙ sym (ap (λ (d : Database). d.trees) (settled free.is_open))

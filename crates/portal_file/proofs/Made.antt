@@ -20,7 +20,7 @@ use Rattle.portal_tables.proofs.Named.{named_is}
 use Rattle.portal_tables.proofs.Base.{everything}
 use Rattle.portal_tables.proofs.Defined.{first_as_written, portal_as_written}
 use Rattle.portal_store.specs.Crash.{IsUpgradedFrom, LeavesUpgraded}
-use Rattle.portal_store.specs.Kept.{Seen, IsCleanStore, kept_world}
+use Rattle.portal_store.specs.Kept.{StoreState, IsCleanStore, kept_world}
 use Rattle.portal_store.specs.World.{first_world, world_of}
 use Rattle.portal_store.specs.Calls.{CreatesStore, UpgradesStore}
 use Rattle.portal_store.proofs.Upgraded.{named_as}
@@ -31,7 +31,7 @@ use Rattle.portal_file.specs.inner.Connected.{AllStand, TreesStand, ClosesAs, Sh
 use Rattle.portal_file.proofs.Served.{closed_world, no_proof, stands_by}
 
 -- tables of version 1 that were upgraded
-pub same_world : {S : Type 0} (g : Ghosts S) (old new : Held S) (made : Seen S) → ClosesAs g made new
+pub same_world : {S : Type 0} (g : Ghosts S) (old new : Held S) (made : StoreState S) → ClosesAs g made new
     → UpgradesStore g old made
     → HasCleanDisk (state g new) → (w : World) → Shows First (state g old) w
     → AllStand Current (state g new).may_leave (λ v. v ≡ w)
@@ -43,7 +43,7 @@ same_world g old new made closes is clean w shows db may =
     closed_world g made new closes on w same (subst Good same (is.makes.good on)) db may)
 
 -- tables that were made where there were none
-pub fresh_world : {S : Type 0} (g : Ghosts S) (old new : Held S) (made : Seen S) (office : List _) → ClosesAs g made new
+pub fresh_world : {S : Type 0} (g : Ghosts S) (old new : Held S) (made : StoreState S) (office : List _) → ClosesAs g made new
     → CreatesStore g office old made
     → old.schema ≡ no_schema → HasCleanDisk (state g new) → Good (first_world office)
     × AllStand Current (state g new).may_leave (λ v. v ≡ first_world office)
@@ -96,7 +96,8 @@ shows_none s w none shows = ∥∥₁_elim shows.stands no_proof (λ stands. non
 pub current_taken : {S : Type 0} (g : Ghosts S) (old : Held S) (w : World) → has_names OfSecond old.schema ≡ false
     → Shows Current (state g old) w → ⊥
 current_taken g old w free shows =
-    ∥∥₁_elim shows.stands no_proof (λ stands. both_ways _ free (named_as OfSecond old.schema portal_schema stands.schema ∙ current_named OfSecond))
+    ∥∥₁_elim shows.stands no_proof (λ stands. both_ways _ free
+    (named_as OfSecond old.schema portal_schema stands.schema ∙ current_named OfSecond))
 
 -- an upgrade leaves those of version 2 as they are, and those of version 1 with the same world
 pub upgrade_leaves : (old new : State) → Survives old new (LeavesUpgraded old)
@@ -110,5 +111,10 @@ upgrade_leaves old new upgrades left clean w (inl current) db may = elim (upgrad
 upgrade_leaves old new upgrades left clean w (inr first) db may = elim ((left first.schema).crash clean db may) [
   | inl was ↦ inl was
   | inr up ↦
-      inr (up.after, sym up.trees, inl (stands_by up.after w up.holds (subst Good first.world first.stands.good) (ap world_of (sym up.trees) ∙ up.world ∙ first.world)))
+      inr (
+        up.after,
+        sym up.trees,
+        inl (stands_by up.after w up.holds (subst Good first.world first.stands.good)
+            (ap world_of (sym up.trees) ∙ up.world ∙ first.world)),
+      )
 ]

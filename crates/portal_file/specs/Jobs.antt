@@ -10,7 +10,7 @@ use Rattle.portal_rules.specs.Good.{Good}
 use Rattle.portal_rules.specs.View.{office_sees}
 use Rattle.portal_rules.specs.declared.keeper.KeepFault.{KeepFault}
 use Rattle.portal_wire.specs.Conversation.{Exchange}
-use Rattle.portal_desk.specs.Session.{count_of, finish_of}
+use Rattle.portal_desk.specs.Session.{Stream, Visit, count_of, finish_of}
 use Rattle.portal_desk.specs.declared.served.Served.{Served}
 use Rattle.portal_desk.specs.declared.served.ServeFault.{ServeFault}
 use Rattle.portal_serve.specs.Hall.{office_report}
@@ -25,7 +25,7 @@ use Rattle.portal_store.specs.declared.store.OpenFault.{OpenFault}
 use Rattle.portal_store.specs.declared.store.OpenFault.TheVariants as opening
 use Rattle.portal_store.specs.declared.store.UpgradeFault.{UpgradeFault}
 use Rattle.portal_store.specs.declared.store.UpgradeFault.TheVariants as upgrading
-use Rattle.portal_file.specs.Tables.{Stream, Work, First, Current, Either, StandsCurrent, StandsFirst, opened_over}
+use Rattle.portal_file.specs.Tables.{FileEffect, First, Current, Either, StandsCurrent, StandsFirst, idle, opened_over}
 
 -- what is left has the rows of the database that was found
 abbrev pub IsSame : Database → Trees → Type 0
@@ -39,9 +39,9 @@ MayMake creating.Exists office db left = IsSame db left
 MayMake _ office db left = IsSame db left ⊎ ((made : Database) × IsFresh office made × (left ≡ made.trees))
 
 -- making the tables, with this office code
-pub record MakesTables {A : Type 0} (office : Key) (r : Result A CreateFault) (work : Work) : Type 0 where
+pub record MakesTables {A : Type 0} (office : Key) (r : Result A CreateFault) (work : FileEffect) : Type 0 where
   -- no request is served
-  pub serves : work.serves [] None
+  pub serves : work.serves idle
   -- if the tables were made, the empty world is left, which is good, in version 2
   pub made : OnOk r (Good (first_world office) × work.leaves Current (λ w. w ≡ first_world office))
   -- in tables such as each change may rely on
@@ -63,9 +63,9 @@ abbrev pub MayUpgrade : UpgradeFault → Database → Trees → Type 0
 MayUpgrade fault db left = IsSame db left ⊎ AfterUpgrading fault (opened_over db) left
 
 -- upgrading them to version 2
-pub record UpgradesTables {A : Type 0} (r : Result A UpgradeFault) (work : Work) : Type 0 where
+pub record UpgradesTables {A : Type 0} (r : Result A UpgradeFault) (work : FileEffect) : Type 0 where
   -- no request is served
-  pub serves : work.serves [] None
+  pub serves : work.serves idle
   -- if they were upgraded, a world that was found in version 1 is left in version 2
   pub upgraded : OnOk r ((w : World) → work.finds First w → work.leaves Current (λ v. v ≡ w))
   -- in tables such as each change may rely on
@@ -90,7 +90,7 @@ abbrev pub IsOfStore : OpenFault → Type 0
 IsOfStore fault = (fault ≡ opening.Store) ⊎ (fault ≡ opening.Memory)
 
 -- opening them for work with this result; what is done after `Ok` begins with these tables
-pub record OpensTables {A : Type 0} (r : Result A OpenFault) (work : Work) : Type 0 where
+pub record OpensTables {A : Type 0} (r : Result A OpenFault) (work : FileEffect) : Type 0 where
   -- the result tells what was found, as the store says it
   pub judged : work.begins (λ db. MatchResult r (λ _. AreOpened (opened_over db))
       (λ fault. AreRefused fault (opened_over db)))
@@ -104,9 +104,9 @@ pub record OpensTables {A : Type 0} (r : Result A OpenFault) (work : Work) : Typ
   pub kept : IfErr r (λ _. work.ends IsSame)
 
 -- reporting on them
-pub record ReportsWorld (r : Result (Result (Vec ℕ Global) KeepFault) OpenFault) (work : Work) : Type 0 where
+pub record ReportsWorld (r : Result (Result (Vec ℕ Global) KeepFault) OpenFault) (work : FileEffect) : Type 0 where
   -- no request is served
-  pub serves : work.serves [] None
+  pub serves : work.serves idle
   -- the tables were opened or refused
   pub opens : OpensTables r work
   -- the text is the report on the world that was found
@@ -115,9 +115,10 @@ pub record ReportsWorld (r : Result (Result (Vec ℕ Global) KeepFault) OpenFaul
 
 -- letting a service serve requests, which are told so
 pub record ServesRequests {A : Type 0} (r : Result A OpenFault) (Told : List Exchange → Type 0)
-    (work : Work) : Type 0 where
+    (work : FileEffect) : Type 0 where
   -- some requests are served, of whose bytes nothing is known; none, if the tables were refused
-  pub serves : (es : List Exchange) × work.serves es None × MatchResult r (λ _. Told es) (λ _. es ≡ [])
+  pub serves : (es : List Exchange) × work.serves (record { exchanges = es; stream = None })
+      × MatchResult r (λ _. Told es) (λ _. es ≡ [])
   -- the tables were opened or refused
   pub opens : OpensTables r work
 
@@ -135,24 +136,23 @@ IsOf stream ends =
     → IsSomeAnd stream (λ s. (s.bytes ≡ bytes) × (after ≡ before ++ s.written))
 
 -- the result of serving a stream tells its requests and its end
-pub record ReportsStream (r : Result Served ServeFault) (ends : Devices) (es : List Exchange)
-    (stream : Option Stream) : Type 0 where
+pub record ReportsStream (r : Result Served ServeFault) (ends : Devices) (v : Visit) : Type 0 where
   -- the stream is the one of the reader and the writer
-  pub known : IsOf stream ends
+  pub known : IsOf v.stream ends
   -- if it is known, its requests are counted
-  pub counted : IfSome stream (λ s. count_of r ≡ length es)
+  pub counted : IfSome v.stream (λ _. count_of r ≡ length v.exchanges)
   -- and it ends as the result says, whether or not the store has failed
-  pub ended : IfSome stream (λ s. (failed : Bool) × (s.finish ≡ finish_of r failed ends.left))
+  pub ended : IfSome v.stream (λ s. (failed : Bool) × (s.finish ≡ finish_of r failed ends.left))
 
 -- the stream was served; or the tables were refused, no request was made, and nothing was read or
 -- written
-abbrev pub IsPiped : Result (Result Served ServeFault) OpenFault → Devices → List Exchange → Option Stream → Type 0
-IsPiped (Ok r) ends es stream = ReportsStream r ends es stream
-IsPiped (Err fault) ends es stream = (es ≡ []) × (ends.left ≡ ends.remaining) × (ends.after ≡ ends.before)
+abbrev pub IsPiped : Result (Result Served ServeFault) OpenFault → Devices → Visit → Type 0
+IsPiped (Ok r) ends v = ReportsStream r ends v
+IsPiped (Err fault) ends v = (v.exchanges ≡ []) × (ends.left ≡ ends.remaining) × (ends.after ≡ ends.before)
 
 -- serving a reader and a writer as one connection
-pub record PipesStream (r : Result (Result Served ServeFault) OpenFault) (ends : Devices) (work : Work) : Type 0 where
+pub record PipesStream (r : Result (Result Served ServeFault) OpenFault) (ends : Devices) (work : FileEffect) : Type 0 where
   -- the requests of a stream are served, of which the result tells
-  pub serves : (es : List Exchange) × (stream : Option Stream) × work.serves es stream × IsPiped r ends es stream
+  pub serves : (v : Visit) × work.serves v × IsPiped r ends v
   -- the tables were opened or refused
   pub opens : OpensTables r work

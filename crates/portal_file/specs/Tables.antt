@@ -1,14 +1,12 @@
 -- The portal's tables, as a database stands for a world, and what work over them finds and leaves.
-use Rattle.std.specs.Prelude.{◌≡◌, ◌⊎◌, ℕ, pos, true, false, List, [], Option, None, IfSome}
+use Rattle.std.specs.Prelude.{◌≡◌, ◌⊎◌, pos, true, false, [], None}
 use Rattle.sqlite.specs.Effect.{Database, IsDatabase}
 use Rattle.sqlite.specs.State.{State}
 use Rattle.sqlite.specs.Tree.{Trees}
 use Rattle.portal_rules.specs.World.{World}
-use Rattle.portal_rules.specs.Run.{Run, AllAnswered, end_of}
 use Rattle.portal_rules.specs.declared.phase.Round.TheVariants as round
-use Rattle.portal_wire.specs.Conversation.{Exchange, requests_of, replies_of}
 use Rattle.portal_desk.specs.Kept.{MayReach}
-use Rattle.portal_desk.specs.Session.{Finish, TellsExchanges}
+use Rattle.portal_desk.specs.Session.{Visit, Tells}
 use Rattle.portal_tables.specs.Tables.{IsCurrentSchema, IsFirstSchema, first_version}
 use Rattle.portal_store.specs.Kept.{HasGoodFirst, HasGoodWorld}
 use Rattle.portal_store.specs.World.{world_in, world_of}
@@ -57,25 +55,19 @@ opened_over db = record {
   IsShielded = Unit {0};
 }
 
--- what is read and written, and how serving it ends
-pub record Stream : Type 0 where
-  pub bytes : List ℕ
-  pub written : List ℕ
-  pub finish : Finish
+-- no request
+abbrev pub idle : Visit
+idle = record { exchanges = []; stream = None }
 
--- from a world that is found, these requests with their replies lead to what is left
-pub record IsTurn (Finds : World → Type 0) (Leaves : (World → Type 0) → Type 0) (es : List Exchange)
-    (stream : Option Stream) : Type 0 where
+-- from a world that is found, the requests of the visit with their replies lead to what is left
+pub record IsTurn (Finds : World → Type 0) (Leaves : (World → Type 0) → Type 0) (v : Visit) : Type 0 where
   -- a world is left that the requests may reach
-  pub stops : (w : World) → Finds w → Leaves (MayReach w es)
-  -- if no reply is 503, they are a run, and its last world is left
-  pub turns : (w : World) → Finds w → AllAnswered (replies_of es)
-      → (worlds : List World) × Run w (requests_of es) (replies_of es) worlds × Leaves (λ v. v ≡ end_of w worlds)
+  pub reaches : (w : World) → Finds w → Leaves (MayReach w v.exchanges)
   -- what is written tells the requests, if the bytes are known
-  pub tells : IfSome stream (λ s. TellsExchanges s.finish s.bytes es s.written)
+  pub tells : Tells v
 
 -- work over tables, in a connection or in files
-pub record Work : Type 1 where
+pub record FileEffect : Type 1 where
   -- it finds tables of this version that stand for this world
   pub finds : Version → World → Type 0
   -- it finds no table
@@ -86,5 +78,5 @@ pub record Work : Type 1 where
   pub ends : (Database → Trees → Type 0) → Type 0
   -- whatever it leaves is tables of this version that stand for a world of this kind
   pub leaves : Version → (World → Type 0) → Type 0
-  -- it serves these requests, of this stream, if its bytes are known
-  pub serves : List Exchange → Option Stream → Type 0
+  -- it serves the requests of this visit
+  pub serves : Visit → Type 0

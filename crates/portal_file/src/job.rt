@@ -4,7 +4,7 @@ ghost use Rattle.std.specs.Prelude.{◌≡◌, Result, false, IfErr, IfOk};
 ghost use Rattle.sqlite.specs.Held.{state};
 ghost use Rattle.sqlite_wal.specs.Files.{image_at};
 ghost use Rattle.sqlite_wal.specs.Recovery.{Image};
-ghost use Rattle.portal_file.specs.Tables.{Work};
+ghost use Rattle.portal_file.specs.Tables.{FileEffect};
 ghost use Rattle.portal_file.specs.inner.Lift.{OpensOver, RunsOver, WorksOver};
 
 use crate::closing::{Closed, close_files};
@@ -23,7 +23,7 @@ pub(crate) trait Job {
     type Fault;
 
     /// What the work does, by what it returns, if the disk is clean.
-    ghost does: { Self → Self → Result Self.Done Self.Fault → Work → Type 0 };
+    ghost does: { Self → Self → Result Self.Done Self.Fault → FileEffect → Type 0 };
 
     /// What becomes of the job in any case, by what the work returns.
     ghost becomes: { Self → Self → Result Self.Done Self.Fault → Type 0 } = { λ _ _ _. Unit {0} };

@@ -19,9 +19,9 @@ pub fn kept_over_files()
     published_best();
 }
 
-/// Law: now let processes serve streams whose bytes are known, as `pipe_file` does. If no reply is
-/// 503, then visits with the main promise describe the processes, so the replies are those written;
-/// and at the end the files hold the world after the last request.
+/// Law: if no reply is 503, the requests of all processes have the main promise, with the replies
+/// that were given; and at the end the files hold the world after the last request. Where the bytes
+/// of a process are known, as `pipe_file` can know them, the replies are those written (`Tells`).
 pub fn promised_over_files()
     ensures { PromisedOverFiles }
 {

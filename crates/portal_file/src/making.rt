@@ -10,7 +10,7 @@ use crate::tables::close_tables;
 use portal_core::Code;
 use portal_store::{CreateFault, NotOpened, Store};
 use portal_tables::names::is_empty;
-use portal_tables::settled;
+use portal_tables::outside_transaction;
 use sqlite::{Alter, Connection, FileFrom, Start};
 use sqlite_disk::Disk;
 use std::alloc::Global;
@@ -33,7 +33,7 @@ impl Job for MakeTables {
         alloc: Global,
         conn: Connection<S>,
     ) -> (Result<(), CreateFault>, Connection<S>) {
-        settled(&conn);
+        outside_transaction(&conn);
         if !is_empty(conn.schema()) {
             return (Err(CreateFault::Exists), conn);
         }

@@ -3,7 +3,7 @@
 ghost use Rattle.std.specs.Prelude.{◌≡◌, IfOk};
 ghost use Rattle.sqlite_wal.specs.Files.{image_at};
 ghost use Rattle.portal_rules.specs.Good.{Good};
-ghost use Rattle.portal_rules.specs.Keeping.{Uses};
+ghost use Rattle.portal_rules.specs.Keeping.{AfterCall};
 ghost use Rattle.portal_rules.specs.View.{office_sees};
 ghost use Rattle.portal_serve.specs.Hall.{office_report};
 ghost use Rattle.portal_store.specs.Kept.{IsCleanStore, kept_state, kept_world};
@@ -22,7 +22,7 @@ use std::alloc::Global;
 
 /// Gets the office's code from the store, and returns the office's report.
 fn report_of<S: Alter>(alloc: Global, store: &mut Store<S>) -> Result<Vec<u8>, KeepFault>
-    ensures uses { Uses result (kept_state S.Store store.old) (kept_state S.Store store.new)
+    ensures uses { AfterCall result (kept_state S.Store store.old) (kept_state S.Store store.new)
         (λ _. ⊥) }
     ensures same { IsCleanStore S.Store store.new
         → kept_world S.Store store.new ≡ kept_world S.Store store.old }

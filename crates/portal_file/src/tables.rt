@@ -8,7 +8,7 @@ ghost use Rattle.portal_file.specs.inner.Connected.{ClosesAs};
 ghost use Rattle.portal_file.specs.inner.Lift.{RefusesTables, WorksOver};
 
 use portal_store::{NotOpened, OpenFault, Store};
-use portal_tables::settled;
+use portal_tables::outside_transaction;
 use sqlite::{Alter, Connection};
 use std::alloc::Global;
 
@@ -24,7 +24,7 @@ pub(crate) fn open_tables<S: Alter>(
     ensures refused { IfErr result (λ e. WorksOver (state S.Store conn) (state S.Store e.1)
         (RefusesTables e.0)) }
 {
-    settled(&conn);
+    outside_transaction(&conn);
     match Store::open(alloc, conn) {
         Ok(store) => Ok(store),
         Err(NotOpened { fault, connection }) => Err((fault, connection)),
@@ -37,6 +37,6 @@ pub(crate) fn close_tables<S: Alter>(store: Store<S>) -> Connection<S>
     ensures closes { ClosesAs S.Store store result }
 {
     let conn = store.into_connection();
-    settled(&conn);
+    outside_transaction(&conn);
     conn
 }

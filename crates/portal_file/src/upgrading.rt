@@ -8,7 +8,7 @@ ghost use Rattle.portal_file.specs.Chain.{OverClosed};
 use crate::job::{Job, OverFile, over_file};
 use crate::tables::close_tables;
 use portal_store::{NotOpened, Store, UpgradeFault};
-use portal_tables::settled;
+use portal_tables::outside_transaction;
 use sqlite::{Alter, Connection, FileFrom, Start};
 use sqlite_disk::Disk;
 use std::alloc::Global;
@@ -29,7 +29,7 @@ impl Job for UpgradeTables {
         alloc: Global,
         conn: Connection<S>,
     ) -> (Result<(), UpgradeFault>, Connection<S>) {
-        settled(&conn);
+        outside_transaction(&conn);
         match Store::upgrade(alloc, conn) {
             Ok(store) => (Ok(()), close_tables(store)),
             Err(NotOpened { fault, connection }) => (Err(fault), connection),

@@ -4,7 +4,7 @@ use Rattle.portal_frame.proofs.Base.{take, drop, refl, sym, ap, ◌∙◌, arith
 use Rattle.portal_frame.proofs.Base.{eqb-true, common_steps, take-append-drop, length-append, IsTrue, nat_lt, nat_le}
 use Rattle.portal_frame.proofs.Base.{RequestHead, IsRequestHead, HasNoRequest, print_request, LineEnd, lf, crlf}
 use Rattle.portal_frame.proofs.Base.{print_blank, print_version, is_token_byte, is_uri_byte, IsField, RequestOverflows}
-use Rattle.portal_frame.proofs.Base.{body_length, bad_head, whole, fault, asked_of, fields_of, Opens, is_blank}
+use Rattle.portal_frame.proofs.Base.{body_length, bad_head, Whole, Faulty, asked_of, fields_of, Opens, is_blank}
 use Rattle.portal_frame.proofs.Base.{append-nil, min, le-leb, cases_lt, take-append-le, drop-append-le, drop-drop}
 use Rattle.portal_frame.proofs.Base.{length-take-le, length-take, length-map, take_all, All-cons, All-nil, ReadsRequest}
 use Rattle.portal_frame.proofs.Base.{ReadsRequest-append, print_request-append, Takes, HasNoHead, IsHead, IsRequestAt}
@@ -69,8 +69,12 @@ blank_ends (b ∷ c ∷ bytes) e = elim (cases_Bool (b == 10)) [
   | inr other ↦
       let both = and_parts (b == 13 && c == 10) (is_blank bytes) (rw other at e) in
       let ends = and_parts (b == 13) (c == 10) both.0 in
-      let r = blank_ends bytes both.1 in
-      (r.0, crlf ∷ r.1, ap (λ x. x ∷ c ∷ (bytes ++ r.0)) (eqb-true b 13 ends.0) ∙ (ap (λ x. 13 ∷ x ∷ (bytes ++ r.0)) (eqb-true c 10 ends.1) ∙ ap (λ xs. 13 ∷ 10 ∷ xs) r.2))
+      let r = blank_ends bytes both.1 in (
+        r.0,
+        crlf ∷ r.1,
+        ap (λ x. x ∷ c ∷ (bytes ++ r.0)) (eqb-true b 13 ends.0)
+            ∙ (ap (λ x. 13 ∷ x ∷ (bytes ++ r.0)) (eqb-true c 10 ends.1) ∙ ap (λ xs. 13 ∷ 10 ∷ xs) r.2),
+      )
 ]
 
 abbrev least : List LineEnd → RequestHead
@@ -104,7 +108,7 @@ never_blank bytes overflows blank =
     omega (arith, over)
 
 -- no head can come: the stream is refused, however it goes on
-pub opens_never : (bytes more : List ℕ) → RequestOverflows 32 bytes → Opens (bytes ++ more) (fault bad_head false)
+pub opens_never : (bytes more : List ℕ) → RequestOverflows 32 bytes → Opens (bytes ++ more) (Faulty bad_head false)
 opens_never bytes more overflows = inr (
   none_ever bytes more overflows,
   elim (cases_Bool (is_blank (bytes ++ more))) [
@@ -115,7 +119,7 @@ opens_never bytes more overflows = inr (
 
 -- the longest head is passed, and none stands there
 pub opens_full : (bytes more : List ℕ) → HasNoHead (bytes ++ more) → head_limit ≤ length bytes
-    → Opens (bytes ++ more) (fault bad_head false)
+    → Opens (bytes ++ more) (Faulty bad_head false)
 opens_full bytes more none full =
     let long : nat_lt (length (bytes ++ more)) head_limit ≡ false = rw (length-append bytes more) (grind (arith, common_steps, full)) in
     inr (none, elim (cases_Bool (is_blank (bytes ++ more))) [ inl blank ↦ rw (blank, long) | inr other ↦ rw other ])
@@ -124,10 +128,11 @@ opens_full bytes more none full =
 
 pub after_whole : (bytes more : List ℕ) (h : RequestHead) (len n : ℕ) → Takes bytes h (drop len bytes)
     → body_length h.minor (fields_of h) ≡ Ok n → n ≤ length (drop len bytes)
-    → Opens (bytes ++ more) (whole (asked_of h (take n (drop len bytes))) (drop (len + n) bytes ++ more))
+    → Opens (bytes ++ more) (Whole (asked_of h (take n (drop len bytes))) (drop (len + n) bytes ++ more))
 after_whole bytes more h len n t e enough =
     let rest = drop len bytes in
-    let fits : nat_le n (length (rest ++ more)) ≡ true = le-leb n (length (rest ++ more)) (rw (length-append rest more) (omega (arith, enough))) in
+    let fits : nat_le n (length (rest ++ more))
+    ≡ true = le-leb n (length (rest ++ more)) (rw (length-append rest more) (omega (arith, enough))) in
     inl (
       h,
       rest ++ more,
@@ -150,7 +155,8 @@ head_of bytes front back headers spans h e short few at within =
     let fits : spans.len ≤ length front = within.section.len_fits in
     let len : length bytes ≡ length front + length back = ap length (sym e) ∙ length-append front back in
     let same = simp length-map at (ap length at.fields) in
-    let count : length h.fields ≤ 32 = omega (arith, few, within.section.count_fits, length-take-le spans.headers headers within.section.count_fits, same) in
+    let count : length h.fields ≤ 32 = omega
+    (arith, few, within.section.count_fits, length-take-le spans.headers headers within.section.count_fits, same) in
     record {
       takes = record {
         reads = reads_whole bytes front back spans.len h e fits at.reads;

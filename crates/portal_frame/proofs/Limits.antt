@@ -1,12 +1,13 @@
 -- How long what is waited for can be.
 use Rattle.portal_frame.proofs.Base.{◌≡◌, ℕ, ◌+◌, ◌<◌, ◌≤◌, Bool, true, false, List, [], ◌∷◌, length, refl, arith}
 use Rattle.portal_frame.proofs.Base.{Result, Ok, if◌then◌else◌, nat_lt, codes, digits_value, length-append, RequestHead}
-use Rattle.portal_frame.proofs.Base.{print_request, Fault, values_of, body_length, fields_of, Err, ltb-false, is_length}
+use Rattle.portal_frame.proofs.Base.{print_request, FramingFault, values_of, body_length, fields_of, Err, ltb-false, is_length}
 use Rattle.portal_frame.proofs.Base.{has_bad_host, has_any, length_of, body_limit, head_limit, request_limit}
-use Rattle.portal_frame.specs.declared.types.Fault.TheVariants as faults
+use Rattle.portal_frame.specs.declared.types.FramingFault.TheVariants as faults
 
 pick : (is_len over : Bool) (d n : ℕ) → nat_lt body_limit d ≡ over
-    → ◌≡◌ {A = Result ℕ Fault} (if is_len then (if over then Err faults.TooLarge else Ok d) else Err faults.BadLength) (Ok n) → n ≤ body_limit
+    → ◌≡◌ {A = Result ℕ FramingFault} (if is_len then (if over then Err faults.TooLarge else Ok d) else Err faults.BadLength) (Ok n)
+    → n ≤ body_limit
 pick true true d n o e = absurd (cc)
 pick true false d n o e = let same : d ≡ n = cc in omega (arith, same, ltb-false body_limit d o)
 pick false over d n o e = absurd (cc)
@@ -25,7 +26,8 @@ after_host false false values n e = length_of-le values n e
 pub body_length-le : (minor : ℕ) (lines : List (List ℕ × List ℕ)) (n : ℕ) → body_length minor lines ≡ Ok n
     → n ≤ body_limit
 body_length-le minor lines n e =
-    after_host (has_bad_host minor (values_of (codes "host") lines)) (has_any (values_of (codes "transfer-encoding") lines)) (values_of (codes "content-length") lines) n e
+    after_host (has_bad_host minor (values_of (codes "host") lines)) (has_any (values_of (codes "transfer-encoding") lines))
+    (values_of (codes "content-length") lines) n e
 
 head-some : (h : RequestHead) → 0 < length (print_request h)
 unfolding print_request

@@ -3,7 +3,7 @@ use Rattle.portal_frame.proofs.Base.{◌≡◌, ℕ, ◌+◌, ◌<◌, ◌≤◌
 use Rattle.portal_frame.proofs.Base.{ap, ◌∙◌, subst, arith, rules, append_assoc, zero-add, if◌then◌else◌, ◌==◌, IsTrue}
 use Rattle.portal_frame.proofs.Base.{RequestHead, IsRequestHead, print_request, print_blank, print_end, print_version}
 use Rattle.portal_frame.proofs.Base.{print_section, LineEnd, crlf, lf, Field, IsField, is_token_byte, is_uri_byte}
-use Rattle.portal_frame.proofs.Base.{RequestOverflows, Opens, fault, bad_head, Leading, Fresh, Inside, lines_from}
+use Rattle.portal_frame.proofs.Base.{RequestOverflows, Opens, Faulty, bad_head, Leading, Fresh, Inside, lines_from}
 use Rattle.portal_frame.proofs.Base.{header_lines, All, flat_map, AllByRecursion, leb-true, All-head, All-tail}
 use Rattle.portal_frame.proofs.Base.{print_field, AllPass, is_value_byte, step, stops, counts, is_overlong}
 use Rattle.std.proofs.lemmas.Bool.{ne_eqb}
@@ -42,16 +42,19 @@ inside (x ∷ xs) e rest none = rw none.0 (zero-add (lines_from Inside (xs ++ (p
 fresh : (xs : List ℕ) (e : LineEnd) (rest : List ℕ) → Starts xs
     → lines_from Fresh (xs ++ (print_end e ++ rest)) ≡ 1 + lines_from Fresh rest
 fresh [] e rest starts = absurd starts
-fresh (x ∷ xs) e rest starts = rw (starts.0, starts.1) (zero-add (lines_from Inside (xs ++ (print_end e ++ rest))) ∙ inside xs e rest starts.2)
+fresh (x ∷ xs) e rest starts = rw (starts.0, starts.1)
+    (zero-add (lines_from Inside (xs ++ (print_end e ++ rest))) ∙ inside xs e rest starts.2)
 
 leading : (xs : List ℕ) (e : LineEnd) (rest : List ℕ) → Starts xs
     → lines_from Leading (xs ++ (print_end e ++ rest)) ≡ 1 + lines_from Fresh rest
 leading [] e rest starts = absurd starts
-leading (x ∷ xs) e rest starts = rw (starts.0, starts.1) (zero-add (lines_from Inside (xs ++ (print_end e ++ rest))) ∙ inside xs e rest starts.2)
+leading (x ∷ xs) e rest starts = rw (starts.0, starts.1)
+    (zero-add (lines_from Inside (xs ++ (print_end e ++ rest))) ∙ inside xs e rest starts.2)
 
 blanks : (ends : List LineEnd) (rest : List ℕ) → lines_from Leading (print_blank ends ++ rest) ≡ lines_from Leading rest
 blanks [] rest = refl
-blanks (crlf ∷ ends) rest = zero-add (0 + lines_from Leading (print_blank ends ++ rest)) ∙ (zero-add (lines_from Leading (print_blank ends ++ rest)) ∙ blanks ends rest)
+blanks (crlf ∷ ends) rest = zero-add (0 + lines_from Leading (print_blank ends ++ rest))
+    ∙ (zero-add (lines_from Leading (print_blank ends ++ rest)) ∙ blanks ends rest)
 blanks (lf ∷ ends) rest = zero-add (lines_from Leading (print_blank ends ++ rest)) ∙ blanks ends rest
 
 empty_line : (e : LineEnd) (rest : List ℕ) → lines_from Fresh (print_end e ++ rest) ≡ 0
@@ -68,9 +71,11 @@ section_lines [] last rest lines = empty_line last rest
 section_lines (f ∷ fields) last rest lines =
     let one_more : 1 + length fields ≡ length (f ∷ fields) = omega arith in
     ap (lines_from Fresh) (append_assoc (print_field f ++ flat_map print_field fields) (print_end last) rest
-    ∙ (append_assoc (print_field f) (flat_map print_field fields) (print_end last ++ rest) ∙ append_assoc (f.name ++ 58 ∷ f.raw) (print_end f.end) (flat_map print_field fields ++ (print_end last ++ rest))))
+    ∙ (append_assoc (print_field f) (flat_map print_field fields) (print_end last ++ rest)
+    ∙ append_assoc (f.name ++ 58 ∷ f.raw) (print_end f.end) (flat_map print_field fields ++ (print_end last ++ rest))))
     ∙ (fresh (f.name ++ 58 ∷ f.raw) f.end (flat_map print_field fields ++ (print_end last ++ rest)) lines.0
-    ∙ ap (λ n. 1 + n) (ap (lines_from Fresh) (sym (append_assoc (flat_map print_field fields) (print_end last) rest)) ∙ section_lines fields last rest lines.1) ∙ one_more)
+    ∙ ap (λ n. 1 + n) (ap (lines_from Fresh) (sym (append_assoc (flat_map print_field fields) (print_end last) rest))
+    ∙ section_lines fields last rest lines.1) ∙ one_more)
 
 shape : (b m t v e s r : List ℕ) → (b ++ m ++ t ++ v ++ e ++ s) ++ r ≡ b ++ ((m ++ t ++ v) ++ (e ++ (s ++ r)))
 shape b m t v e s r = simp append_assoc
@@ -86,7 +91,8 @@ unfolding print_request
 lines_counted h rest lined =
     let start = h.method ++ 32 ∷ h.target ++ 32 ∷ print_version h.minor in
     let after = print_section h.fields h.last ++ rest in
-    ap (lines_from Leading) (shape (print_blank h.blank) h.method (32 ∷ h.target) (32 ∷ print_version h.minor) (print_end h.line_end) (print_section h.fields h.last) rest)
+    ap (lines_from Leading) (shape (print_blank h.blank) h.method (32 ∷ h.target) (32 ∷ print_version h.minor) (print_end h.line_end)
+    (print_section h.fields h.last) rest)
     ∙ (blanks h.blank (start ++ (print_end h.line_end ++ after))
     ∙ (leading start h.line_end after lined.start
     ∙ ap (λ n. 1 + n) (section_lines h.fields h.last rest lined.lines)))
@@ -119,15 +125,18 @@ version_lf minor le =
 field_lines : (fields : List Field) → All IsField fields → FieldLines fields
 field_lines [] all = tt
 field_lines (f ∷ fields) all =
-    let is = All-head IsField f fields all in
-    (starts f.name (58 ∷ f.raw) is.name.0 is.name.1 (refl, no_lf is_value_byte f.raw is.raw refl), field_lines fields (All-tail IsField f fields all))
+    let is = All-head IsField f fields all in (
+      starts f.name (58 ∷ f.raw) is.name.0 is.name.1 (refl, no_lf is_value_byte f.raw is.raw refl),
+      field_lines fields (All-tail IsField f fields all),
+    )
 
 lined : (h : RequestHead) → IsRequestHead h → IsLined h
 lined h is =
     record {
       start = subst Starts (sym (append_assoc h.method (32 ∷ h.target) (32 ∷ print_version h.minor)))
           (starts h.method (32 ∷ h.target ++ 32 ∷ print_version h.minor) is.method.0 is.method.1
-          (no_lf-append (32 ∷ h.target) (32 ∷ print_version h.minor) (refl, no_lf is_uri_byte h.target is.target.1 refl) (version_lf h.minor is.minor)));
+          (no_lf-append (32 ∷ h.target) (32 ∷ print_version h.minor) (refl, no_lf is_uri_byte h.target is.target.1 refl)
+          (version_lf h.minor is.minor)));
       lines = field_lines h.fields is.fields;
     }
 
@@ -138,5 +147,5 @@ overlong bytes long more h rest reads =
     let same : lines_from Leading (bytes ++ more) ≡ 1 + length h.fields = ap (lines_from Leading) reads.1 ∙ most in
     omega (arith, long, counted_is bytes, lines-append Leading bytes more, same)
 
-pub opens_overlong : (bytes more : List ℕ) → is_overlong bytes ≡ true → Opens (bytes ++ more) (fault bad_head false)
+pub opens_overlong : (bytes more : List ℕ) → is_overlong bytes ≡ true → Opens (bytes ++ more) (Faulty bad_head false)
 opens_overlong bytes more long = opens_never bytes more (overlong bytes (leb-true 34 (length (header_lines bytes)) long))

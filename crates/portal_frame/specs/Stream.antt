@@ -11,8 +11,8 @@ use Rattle.std.specs.Str.Parse.{digits_value}
 use Rattle.httparse.specs.Spans.{RequestExceeds, name_and_value}
 use Rattle.portal_frame.specs.declared.types.Request.{Request}
 use Rattle.portal_frame.specs.declared.types.Refusal.{Refusal}
-use Rattle.portal_frame.specs.declared.types.Fault.{Fault}
-use Rattle.portal_frame.specs.declared.types.Fault.TheVariants.{BadHead, BadHost, CodedBody, BadLength, TooLarge}
+use Rattle.portal_frame.specs.declared.types.FramingFault.{FramingFault}
+use Rattle.portal_frame.specs.declared.types.FramingFault.TheVariants.{BadHead, BadHost, CodedBody, BadLength, TooLarge}
 use Rattle.portal_frame.specs.declared.types.Frame.{Frame}
 use Rattle.portal_frame.specs.declared.types.Frame.TheVariants as frame
 
@@ -149,7 +149,7 @@ abbrev pub plain_refusal : ℕ → List ℕ → RefusalContent
 plain_refusal status word = record { status = status; word = word; allow = []; row = None }
 
 -- the five refusals of framing
-unfoldable pub refusal_of_fault : Fault → RefusalContent
+unfoldable pub refusal_of_fault : FramingFault → RefusalContent
 refusal_of_fault BadHead = plain_refusal 400 (codes "bad_head")
 refusal_of_fault BadHost = plain_refusal 400 (codes "bad_host")
 refusal_of_fault CodedBody = plain_refusal 501 (codes "coded_body")
@@ -163,7 +163,7 @@ abbrev pub bad_length : RefusalContent
 bad_length = refusal_of_fault BadLength
 
 -- the body length by the values of Content-Length, at most 1,048,576 bytes
-abbrev pub length_of : List (List ℕ) → Result ℕ Fault
+abbrev pub length_of : List (List ℕ) → Result ℕ FramingFault
 length_of [] = Ok 0
 length_of (value ∷ []) =
     if is_length value
@@ -172,7 +172,7 @@ length_of (value ∷ []) =
 length_of (value ∷ other ∷ values) = Err BadLength
 
 -- the first fault of the header lines, or the body length
-abbrev pub body_length : ℕ → List (List ℕ × List ℕ) → Result ℕ Fault
+abbrev pub body_length : ℕ → List (List ℕ × List ℕ) → Result ℕ FramingFault
 body_length minor lines =
     if has_bad_host minor (values_of (codes "host") lines) then Err BadHost
     else (if has_any (values_of (codes "transfer-encoding") lines) then Err CodedBody
@@ -190,9 +190,9 @@ HasNoHead bytes = (h : RequestHead) (rest : List ℕ) → ¬ (Takes bytes h rest
 
 -- the front of a stream: a request and the bytes after it, a fault (true for HEAD), or the end
 pub data Item : Type 0 where
-  whole : RequestContent → List ℕ → Item
-  fault : RefusalContent → Bool → Item
-  over : Item
+  Whole : RequestContent → List ℕ → Item
+  Faulty : RefusalContent → Bool → Item
+  Over : Item
 
 abbrev pub fields_of : RequestHead → List (List ℕ × List ℕ)
 fields_of h = map name_and_value h.fields
@@ -214,11 +214,11 @@ asked_of h body = record {
 }
 
 -- the item for a head, its body length or fault, and all the bytes after the head
-abbrev pub after_lines : RequestHead → Result ℕ Fault → List ℕ → Item
-after_lines h (Err why) rest = fault (refusal_of_fault why) (is_head h.method)
+abbrev pub after_lines : RequestHead → Result ℕ FramingFault → List ℕ → Item
+after_lines h (Err why) rest = Faulty (refusal_of_fault why) (is_head h.method)
 after_lines h (Ok n) rest =
-    if nat_le n (length rest) then whole (asked_of h (take n rest)) (drop n rest)
-    else fault bad_length (is_head h.method)
+    if nat_le n (length rest) then Whole (asked_of h (take n rest)) (drop n rest)
+    else Faulty bad_length (is_head h.method)
 
 abbrev pub item_of : RequestHead → List ℕ → Item
 item_of h rest = after_lines h (body_length h.minor (fields_of h)) rest
@@ -231,7 +231,7 @@ is_blank (b ∷ c ∷ bytes) = if b == 10 then is_blank (c ∷ bytes) else (b ==
 
 -- the item of a stream without a head at its front
 abbrev pub headless : List ℕ → Item
-headless bytes = if is_blank bytes && nat_lt (length bytes) head_limit then over else fault bad_head false
+headless bytes = if is_blank bytes && nat_lt (length bytes) head_limit then Over else Faulty bad_head false
 
 -- a complete rest of a stream begins with this item
 abbrev pub Opens : List ℕ → Item → Type 0
@@ -255,11 +255,11 @@ WaitsForBody bytes =
 -- the answer for the bytes so far; a request or fault that is found holds for any continuation
 abbrev pub Framed : List ℕ → Bool → Frame → Type 0
 Framed bytes ended frame.Need = IsFalse ended × (WaitsForHead bytes ⊎ WaitsForBody bytes)
-Framed bytes ended frame.End = IsTrue ended × Opens bytes over
+Framed bytes ended frame.End = IsTrue ended × Opens bytes Over
 Framed bytes ended (frame.Request request used) =
-    (more : List ℕ) → Opens (bytes ++ more) (whole (request_content request) (drop used bytes ++ more))
+    (more : List ℕ) → Opens (bytes ++ more) (Whole (request_content request) (drop used bytes ++ more))
 Framed bytes ended (frame.Bad refusal head_only) =
-    (more : List ℕ) → (IsTrue ended → more ≡ []) → Opens (bytes ++ more) (fault (refusal_content refusal) head_only)
+    (more : List ℕ) → (IsTrue ended → more ≡ []) → Opens (bytes ++ more) (Faulty (refusal_content refusal) head_only)
 
 -- a refusal comes only after its cause: a head, the end, a limit, or that no head can come
 abbrev pub IsDue : List ℕ → Bool → Frame → Type 0

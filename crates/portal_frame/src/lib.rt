@@ -15,7 +15,7 @@ mod values;
 
 use crate::closing::ends_after;
 use crate::counting::is_overlong_head;
-use crate::types::Fault;
+use crate::types::FramingFault;
 pub use crate::types::{Frame, LONGEST_BODY, LONGEST_HEAD, LONGEST_REQUEST, Refusal, Request};
 use crate::values::{check_lines, code_of, up_to};
 use httparse::spans::{EMPTY_HEADER_SPAN, HeaderSpan, RequestSpans, parse_request};
@@ -58,7 +58,7 @@ fn frame_open(bytes: &[u8], ended: bool) -> Frame
         }
     }
     Frame::Bad {
-        refusal: Fault::BadHead.refusal(),
+        refusal: FramingFault::BadHead.refusal(),
         head_only: false,
     }
 }
@@ -90,7 +90,7 @@ fn frame_head(
     if rest.len() < n {
         if ended {
             return Ok(Frame::Bad {
-                refusal: Fault::BadLength.refusal(),
+                refusal: FramingFault::BadLength.refusal(),
                 head_only,
             });
         }
@@ -128,7 +128,7 @@ pub fn frame(alloc: Global, bytes: &[u8], ended: bool) -> Result<Frame, AllocErr
         Err(error) => match error {
             Error::TooManyHeaders => Ok(frame_open(bytes, ended)),
             _ => Ok(Frame::Bad {
-                refusal: Fault::BadHead.refusal(),
+                refusal: FramingFault::BadHead.refusal(),
                 head_only: false,
             }),
         },

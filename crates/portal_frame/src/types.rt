@@ -64,7 +64,7 @@ pub enum Frame {
 
 /// Why a stream is refused.
 #[derive(Clone, Copy, Debug, PartialEq, Eq, Drop)]
-pub(crate) enum Fault {
+pub(crate) enum FramingFault {
     BadHead,
     BadHost,
     CodedBody,
@@ -72,18 +72,18 @@ pub(crate) enum Fault {
     TooLarge,
 }
 
-impl Fault {
+impl FramingFault {
     /// Returns the refusal for this fault of framing.
     #[tactic(auto, unfolding(crate::specs::Stream::refusal_of_fault))]
     pub(crate) fn refusal(self) -> Refusal
         ensures { refusal_content result ≡ refusal_of_fault self }
     {
         match self {
-            Fault::BadHead => Refusal::by_word(400, "bad_head"),
-            Fault::BadHost => Refusal::by_word(400, "bad_host"),
-            Fault::CodedBody => Refusal::by_word(501, "coded_body"),
-            Fault::BadLength => Refusal::by_word(400, "bad_length"),
-            Fault::TooLarge => Refusal::by_word(413, "too_large"),
+            FramingFault::BadHead => Refusal::by_word(400, "bad_head"),
+            FramingFault::BadHost => Refusal::by_word(400, "bad_host"),
+            FramingFault::CodedBody => Refusal::by_word(501, "coded_body"),
+            FramingFault::BadLength => Refusal::by_word(400, "bad_length"),
+            FramingFault::TooLarge => Refusal::by_word(413, "too_large"),
         }
     }
 }

@@ -6,7 +6,7 @@ ghost use Rattle.portal_frame.specs.Stream.{same_name, values_of, only, length_o
 ghost use Rattle.portal_frame.specs.Stream.{body_length, up_to as bytes_up_to};
 ghost use Rattle.portal_frame.specs.inner.Counting.{IsFound};
 
-use crate::types::{Fault, LONGEST_BODY};
+use crate::types::{FramingFault, LONGEST_BODY};
 use httparse::spans::HeaderSpan;
 use std::alloc::{AllocError, Global};
 
@@ -56,47 +56,51 @@ pub(crate) fn found_value<'b>(bytes: &'b [u8], headers: &[HeaderSpan], name: &[u
 }
 
 /// Parses the value of `Content-Length`, which may be at most 1,048,576.
-fn number_of(value: &[u8]) -> Result<usize, Fault>
+fn number_of(value: &[u8]) -> Result<usize, FramingFault>
     ensures { result ≡ length_of (value.now ∷ []) }
 {
     if value.is_empty() || value.len() > 18 {
-        return Err(Fault::BadLength);
+        return Err(FramingFault::BadLength);
     }
     let mut number = 0u64;
     for digit in value {
         if !digit.is_ascii_digit() {
-            return Err(Fault::BadLength);
+            return Err(FramingFault::BadLength);
         }
         number = number * 10 + (*digit - b'0') as u64;
     }
     if number > LONGEST_BODY as u64 {
-        return Err(Fault::TooLarge);
+        return Err(FramingFault::TooLarge);
     }
     Ok(number as usize)
 }
 
 /// Returns the length of the body, or the first fault of the headers.
-pub(crate) fn check_lines(bytes: &[u8], headers: &[HeaderSpan], minor: u8) -> Result<usize, Fault>
+pub(crate) fn check_lines(
+    bytes: &[u8],
+    headers: &[HeaderSpan],
+    minor: u8,
+) -> Result<usize, FramingFault>
     requires { All (IsHeaderWithin (length bytes.now)) headers.now }
     ensures { result ≡ body_length minor (map (header_bytes bytes.now) headers.now) }
 {
     match found_value(bytes, headers, b"host") {
         Found::Nothing => {
             if minor == 1 {
-                return Err(Fault::BadHost);
+                return Err(FramingFault::BadHost);
             }
         }
         Found::One(_) => {}
-        Found::Many => return Err(Fault::BadHost),
+        Found::Many => return Err(FramingFault::BadHost),
     }
     match found_value(bytes, headers, b"transfer-encoding") {
         Found::Nothing => {}
-        _ => return Err(Fault::CodedBody),
+        _ => return Err(FramingFault::CodedBody),
     }
     match found_value(bytes, headers, b"content-length") {
         Found::Nothing => Ok(0),
         Found::One(value) => number_of(value),
-        Found::Many => Err(Fault::BadLength),
+        Found::Many => Err(FramingFault::BadLength),
     }
 }
 

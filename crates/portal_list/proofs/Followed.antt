@@ -14,7 +14,8 @@ module _ (w : World) where
   filled_is l =
       ap (λ keys. with_missing l (cond (is_none l.ranking) (unless_empty keys) None)) (applicants_are w l.row.key)
       ∙ by_case (is_none l.ranking) (is_empty (map student_key (applicants_of w l.row.key)))
-      ∙ ap (λ b. cond (not b && is_none l.ranking) (record l { ranking = Some (map student_key (applicants_of w l.row.key)) }) l) (empty_map student_key (applicants_of w l.row.key))
+      ∙ ap (λ b. cond (not b && is_none l.ranking) (record l { ranking = Some (map student_key (applicants_of w l.row.key)) }) l)
+      (empty_map student_key (applicants_of w l.row.key))
     where
       by_case : (none empty : Bool)
           → with_missing l (cond none (cond empty None (Some (map student_key (applicants_of w l.row.key)))) None)

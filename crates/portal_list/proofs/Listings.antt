@@ -13,7 +13,8 @@ name_row (Some l) = refl
 
 name_is : (ls : List Lecturer) (k : Key) → name_of (map row_of ls) k ≡ name_in ls k
 name_is ls k =
-    ap (option_map (λ (r : LecturerRow). r.name)) (find_map row_of (λ (l : Lecturer). equals l.row.key k) (λ (r : LecturerRow). equals r.key k) (λ l. refl) ls)
+    ap (option_map (λ (r : LecturerRow). r.name))
+    (find_map row_of (λ (l : Lecturer). equals l.row.key k) (λ (r : LecturerRow). equals r.key k) (λ l. refl) ls)
     ∙ name_row (find (λ (l : Lecturer). equals l.row.key k) ls)
 
 pub offered_rows : (ls : List Lecturer) (ps : List ProjectRow) → offered (map row_of ls) ps ≡ listings ls ps

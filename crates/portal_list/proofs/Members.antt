@@ -22,14 +22,16 @@ distinct_apart (k ∷ ks) zero (suc j) d once less low same = search (rules, lis
 distinct_apart (k ∷ ks) (suc i) (suc j) d once less low same = distinct_apart ks i j d once.1 (omega arith) (omega arith) same
 
 pub repeats_not : (list : List Key) → AreDistinct list → Repeats list → ⊥
-repeats_not list once (j, text, low, at, (i, x, less, is_x, same)) = search (rules, length-take, get_or_default, get_or-take, distinct_apart)
+repeats_not list once (j, text, low, at, (i, x, less, is_x, same)) =
+    search (rules, length-take, get_or_default, get_or-take, distinct_apart)
 
 pub earlier_not : {X : Type 0} (key : X → Key) (lines : List X) (j : ℕ) (x : X) → Rise (map key lines)
     → j < length lines → get_or lines j x ≡ x → IsEarlierKey lines key j (key x) → ⊥
 earlier_not key lines j x rise low at (i, y, less, is_y, same) =
     let before : i < j = omega (arith, length-take j lines) in
     let y_at : get_or lines i y ≡ y = sym (get_or-take j lines i y before) ∙ is_y in
-    let below : slice_cmp nat_cmp (get_or (map key lines) i []) (get_or (map key lines) j []) ≡ Less = pairs_rise (map key lines) rise i j [] before (omega (arith, length-map lines key)) in
+    let below : slice_cmp nat_cmp (get_or (map key lines) i []) (get_or (map key lines) j [])
+    ≡ Less = pairs_rise (map key lines) rise i j [] before (omega (arith, length-map lines key)) in
     never_itself (key x) (rw (map_at key lines i y [] (omega arith) y_at, map_at key lines j x [] low at, same) at below)
 
 -- no line made of these is bad

@@ -47,38 +47,48 @@ all_under P (x ∷ xs) f = (λ a. (f a).0, all_under P xs (λ a. (f a).1))
 students_fit : (phase : Phase) (round : Round) (ss : List Student)
     → (is_setup phase ≡ true → AllByRecursion (λ s. s.choice ≡ []) ss)
     → (is_published phase ≡ false → AllByRecursion (λ s. s.placed ≡ None) ss)
-    → (is_second round ≡ false → AllByRecursion HasNothingEarlier ss) → AllByRecursion IsOutIfPlaced ss → AllByRecursion (StudentFits phase round) ss
+    → (is_second round ≡ false → AllByRecursion HasNothingEarlier ss) → AllByRecursion IsOutIfPlaced ss
+    → AllByRecursion (StudentFits phase round) ss
 students_fit phase round [] a b c d = tt
-students_fit phase round (s ∷ ss) a b c d =
-    (record { no_choice_yet = λ e. (a e).0; no_result_yet = λ e. (b e).0; nothing_earlier = λ e. (c e).0; out_if_placed = d.0 }, students_fit phase round ss (λ e. (a e).1) (λ e. (b e).1) (λ e. (c e).1) d.1)
+students_fit phase round (s ∷ ss) a b c d = (
+  record { no_choice_yet = λ e. (a e).0; no_result_yet = λ e. (b e).0; nothing_earlier = λ e. (c e).0; out_if_placed = d.0 },
+  students_fit phase round ss (λ e. (a e).1) (λ e. (b e).1) (λ e. (c e).1) d.1,
+)
 
 lecturers_fit : (phase : Phase) (round : Round) (ls : List Lecturer)
     → (is_from_ranking phase ≡ false → AllByRecursion (λ l. l.ranking ≡ None) ls)
     → (is_second round ≡ false → AllByRecursion (λ l. l.earlier_ranking ≡ None) ls)
     → AllByRecursion (LecturerFits phase round) ls
 lecturers_fit phase round [] a b = tt
-lecturers_fit phase round (l ∷ ls) a b = (record { no_ranking_yet = λ e. (a e).0; no_earlier_ranking = λ e. (b e).0 }, lecturers_fit phase round ls (λ e. (a e).1) (λ e. (b e).1))
+lecturers_fit phase round (l ∷ ls) a b = (
+  record { no_ranking_yet = λ e. (a e).0; no_earlier_ranking = λ e. (b e).0 },
+  lecturers_fit phase round ls (λ e. (a e).1) (λ e. (b e).1),
+)
 
 module _ (w : World) where
   pub rolls_of : Sound w → RollsOf w
   rolls_of sound =
-      let codes : AreDistinct (codes_in w.office (world_rows w).lecturers (world_rows w).students) = subst AreDistinct (sym (codes_are w)) sound.codes in
+      let codes : AreDistinct (codes_in w.office (world_rows w).lecturers (world_rows w).students) =
+      subst AreDistinct (sym (codes_are w)) sound.codes in
       search (rules, lecturer_keys_are, student_keys_are, length-map, laws.all_map)
 
   ranked : Sound w
       → AllByRecursion (λ l. HasRanking (is_published w.phase) (applicant_keys w.projects w.students l.row.key) l.ranking) w.lecturers
   ranked sound =
-      laws.all_weaker _ (λ l. HasRanking (is_published w.phase) (applicant_keys w.projects w.students l.row.key) l.ranking) (λ l h. subst (λ keys. HasRanking (is_published w.phase) keys l.ranking) (sym (applicants_are w l.row.key)) (record {
+      laws.all_weaker _ (λ l. HasRanking (is_published w.phase) (applicant_keys w.projects w.students l.row.key) l.ranking)
+      (λ l h. subst (λ keys. HasRanking (is_published w.phase) keys l.ranking) (sym (applicants_are w l.row.key)) (record {
         whole = h.0;
         there = λ asked none. still (applicants_of w l.row.key) l.ranking (h.1 asked) none;
       })) w.lecturers
-      (laws.all_both _ (λ l. is_published w.phase ≡ true → is_still_to_rank w l ≡ false) w.lecturers sound.rankings (all_under (λ l. is_still_to_rank w l ≡ false) w.lecturers sound.all_ranked))
+      (laws.all_both _ (λ l. is_published w.phase ≡ true → is_still_to_rank w l ≡ false) w.lecturers sound.rankings
+      (all_under (λ l. is_still_to_rank w l ≡ false) w.lecturers sound.all_ranked))
 
   pub lists_of : Sound w → ListsOf w
   lists_of sound = record {
     entries_fit = record {
       no_second_setup = sound.no_second_setup;
-      students_fit = students_fit w.phase w.round w.students sound.no_choices_yet sound.no_result_yet sound.no_earlier_lists sound.only_left;
+      students_fit = students_fit w.phase w.round w.students sound.no_choices_yet sound.no_result_yet
+          sound.no_earlier_lists sound.only_left;
       lecturers_fit = lecturers_fit w.phase w.round w.lecturers sound.no_rankings_yet sound.no_earlier_rankings;
     };
     choices = sound.choices;
@@ -102,13 +112,15 @@ module _ (w : World) where
     few_projects = rolls.few.few_projects;
     few_students = omega (arith, length-map w.students (λ s. s.row), rolls.few.few_students);
     codes = subst AreDistinct (codes_are w) rolls.codes;
-    lecturers_known = subst (λ keys. AllByRecursion (λ p. has keys p.lecturer ≡ true) w.projects) (lecturer_keys_are w) rolls.lecturers_known;
+    lecturers_known = subst (λ keys. AllByRecursion (λ p. has keys p.lecturer ≡ true) w.projects)
+        (lecturer_keys_are w) rolls.lecturers_known;
     choices = lists.choices;
     no_choices_yet = λ e. laws.all_weaker _ _ (λ s h. h.no_choice_yet e) w.students lists.entries_fit.students_fit;
     no_rankings_yet = λ e. laws.all_weaker _ _ (λ l h. h.no_ranking_yet e) w.lecturers lists.entries_fit.lecturers_fit;
     rankings = laws.all_weaker _ _ (λ l h. (meant l h).whole) w.lecturers lists.rankings;
     no_result_yet = λ e. laws.all_weaker _ _ (λ s h. h.no_result_yet e) w.students lists.entries_fit.students_fit;
-    all_ranked = λ asked. laws.all_weaker _ _ (λ l h. not_still (applicants_of w l.row.key) l.ranking (λ none. (meant l h).there asked none)) w.lecturers lists.rankings;
+    all_ranked = λ asked. laws.all_weaker _ _
+        (λ l h. not_still (applicants_of w l.row.key) l.ranking (λ none. (meant l h).there asked none)) w.lecturers lists.rankings;
     no_earlier_lists = λ e. laws.all_weaker _ _ (λ s h. h.nothing_earlier e) w.students lists.entries_fit.students_fit;
     no_earlier_rankings = λ e. laws.all_weaker _ _ (λ l h. h.no_earlier_ranking e) w.lecturers lists.entries_fit.lecturers_fit;
     no_second_setup = lists.entries_fit.no_second_setup;
@@ -128,7 +140,8 @@ module _ (rows : RowsOfWorld) where
 
   -- the entries of a sound world come again
   pub lecturers_of_sound : (w : World) → rows ≡ world_rows w → Sound w → lecturers_from ≡ Some w.lecturers
-  lecturers_of_sound w e sound = ap (λ r. lecturers_fitting r.lecturers r.rankings r.earlier_rankings) e ∙ lecturers_back w.lecturers sound.lecturers_rise
+  lecturers_of_sound w e sound = ap (λ r. lecturers_fitting r.lecturers r.rankings r.earlier_rankings) e
+      ∙ lecturers_back w.lecturers sound.lecturers_rise
 
   pub students_of_sound : (w : World) → rows ≡ world_rows w → Sound w → students_from ≡ Some w.students
   students_of_sound w e sound = search (rules, students_back)
@@ -141,7 +154,14 @@ module _ (rows : RowsOfWorld) where
       same_students : w.students ≡ ss
       same_students = let s : Some w.students ≡ Some ss = sym (students_of_sound w e sound) ∙ students in cc
 
-    pub fitted_rows : IsFitted rows (record { round = rows.round; phase = rows.phase; office = rows.office; lecturers = ls; projects = rows.projects; students = ss })
+    pub fitted_rows : IsFitted rows (record {
+      round = rows.round;
+      phase = rows.phase;
+      office = rows.office;
+      lecturers = ls;
+      projects = rows.projects;
+      students = ss;
+    })
     fitted_rows = search (rules, lecturers_rows, students_rows, same_lecturers, same_students)
 
   -- no sound world has rows whose rolls, or whose lists, don't fit

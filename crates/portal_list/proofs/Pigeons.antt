@@ -21,13 +21,19 @@ has_without k x (a ∷ ks) other h = grind (arith, has_without k x ks other, is_
 pub fits : (ks all : List Key) → AreDistinct ks → AllByRecursion (λ k. has all k ≡ true) ks → length ks ≤ length all
 fits [] all once known = omega arith
 fits (k ∷ ks) all once known =
-    let left : AllByRecursion (λ x. has (without k all) x ≡ true) ks = all_weaker (λ x. (equals k x ≡ false) × (has all x ≡ true)) (λ x. has (without k all) x ≡ true) (λ x h. has_without k x all h.0 h.1) ks (all_both (λ x. equals k x ≡ false) (λ x. has all x ≡ true) ks (none_of ks k once.0) known.1) in
+    let left : AllByRecursion (λ x. has (without k all) x ≡ true) ks =
+    all_weaker (λ x. (equals k x ≡ false) × (has all x ≡ true)) (λ x. has (without k all) x ≡ true)
+    (λ x h. has_without k x all h.0 h.1) ks (all_both (λ x. equals k x ≡ false) (λ x. has all x ≡ true) ks
+    (none_of ks k once.0) known.1) in
     omega (arith, fits ks (without k all) once.1 left, length_without k all known.0)
 
 -- each key of a list is on it
 own : (front ks : List Key) → AllByRecursion (λ k. has ks k ≡ true) ks
 own front [] = tt
-own front (k ∷ ks) = (rw (is_own k) refl, all_weaker (λ x. has ks x ≡ true) (λ x. has (k ∷ ks) x ≡ true) (λ x h. rw h (or-true (equals x k))) ks (own front ks))
+own front (k ∷ ks) = (
+  rw (is_own k) refl,
+  all_weaker (λ x. has ks x ≡ true) (λ x. has (k ∷ ks) x ≡ true) (λ x h. rw h (or-true (equals x k))) ks (own front ks),
+)
 
 pub all_on : (ks all : List Key) → AreDistinct ks → AllByRecursion (λ k. has all k ≡ true) ks → length all ≤ length ks
     → AllByRecursion (λ a. has ks a ≡ true) all

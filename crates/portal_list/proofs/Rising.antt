@@ -8,5 +8,6 @@ use Rattle.portal_rules.proofs.Puts.{less_of}
 pub pairs_rise : (keys : List Key) → Rise keys → spa.TextsRise keys
 pairs_rise [] r i j d low h = absurd (omega arith)
 pairs_rise (k ∷ ks) r i zero d low h = absurd (omega arith)
-pairs_rise (k ∷ ks) r zero (suc j) d low h = less_of (slice_cmp nat_cmp k (get_or ks j d)) (all_at (λ l. is_before k l ≡ true) ks j d r.0 (omega arith))
+pairs_rise (k ∷ ks) r zero (suc j) d low h =
+    less_of (slice_cmp nat_cmp k (get_or ks j d)) (all_at (λ l. is_before k l ≡ true) ks j d r.0 (omega arith))
 pairs_rise (k ∷ ks) r (suc i) (suc j) d low h = pairs_rise ks r.1 i j d (omega arith) (omega arith)

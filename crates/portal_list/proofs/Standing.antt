@@ -43,15 +43,19 @@ column_is f d lines ys long at = ext_get_or d ys (map f lines) (long ∙ sym (le
     at k x.0 low x.1 ∙ sym (map_at f lines k x.0 d low x.1))
 
 module _ (rows : Rows) (i : Spa) (lawful : IsLawful i) (for : StandsFor rows i)
-    (students_rise : TextsRise (keys_of_students rows.students)) (projects_rise : TextsRise (keys_of_projects rows.projects)) (lecturers_rise : TextsRise (keys_of_lecturers rows.lecturers)) where
+    (students_rise : TextsRise (keys_of_students rows.students)) (projects_rise : TextsRise (keys_of_projects rows.projects))
+    (lecturers_rise : TextsRise (keys_of_lecturers rows.lecturers)) where
   same_students : i.student_keys ≡ keys_of_students rows.students
-  same_students = keys_are (λ x. x.key) rows.students i.student_keys lawful.student_keys_rise students_rise for.student_count (student_there rows i lawful for)
+  same_students = keys_are (λ x. x.key) rows.students i.student_keys lawful.student_keys_rise students_rise for.student_count
+      (student_there rows i lawful for)
 
   same_projects : i.project_keys ≡ keys_of_projects rows.projects
-  same_projects = keys_are (λ x. x.key) rows.projects i.project_keys lawful.project_keys_rise projects_rise for.project_count (project_there rows i lawful for)
+  same_projects = keys_are (λ x. x.key) rows.projects i.project_keys lawful.project_keys_rise projects_rise for.project_count
+      (project_there rows i lawful for)
 
   same_lecturers : i.lecturer_keys ≡ keys_of_lecturers rows.lecturers
-  same_lecturers = keys_are (λ x. x.key) rows.lecturers i.lecturer_keys lawful.lecturer_keys_rise lecturers_rise for.lecturer_count (lecturer_there rows i lawful for)
+  same_lecturers = keys_are (λ x. x.key) rows.lecturers i.lecturer_keys lawful.lecturer_keys_rise lecturers_rise for.lecturer_count
+      (lecturer_there rows i lawful for)
 
   -- a line stands at its place
   project_at : (k : ℕ) (x : ProjectWithLecturer) → k < length rows.projects → get_or rows.projects k x ≡ x
@@ -60,28 +64,36 @@ module _ (rows : Rows) (i : Spa) (lawful : IsLawful i) (for : StandsFor rows i)
 
   lecturer_at : (k : ℕ) (x : LecturerWithList) → k < length rows.lecturers → get_or rows.lecturers k x ≡ x
       → (limit_of i k ≡ x.capacity) × (keys_at i.student_keys (ranking_of i k) ≡ x.list)
-  lecturer_at k x low at = lecturer_says rows i lawful for k x k low at (rw same_lecturers (key_number (λ y. y.key) rows.lecturers k x low at))
+  lecturer_at k x low at = lecturer_says rows i lawful for k x k low at
+      (rw same_lecturers (key_number (λ y. y.key) rows.lecturers k x low at))
 
   same_choices : i.choices ≡ map (λ (x : StudentWithList). map (number_in i.project_keys) x.list) rows.students
-  same_choices = column_is (λ (x : StudentWithList). map (number_in i.project_keys) x.list) [] rows.students i.choices (sym lawful.student_rows ∙ for.student_count) (λ k x low at.
+  same_choices = column_is (λ (x : StudentWithList). map (number_in i.project_keys) x.list) [] rows.students i.choices
+      (sym lawful.student_rows ∙ for.student_count) (λ k x low at.
       sym (numbers_back i.project_keys (choices_of i k) lawful.project_keys_rise (choices_below i lawful k))
-      ∙ ap (map (number_in i.project_keys)) (student_says rows i lawful for k x k low at (rw same_students (key_number (λ y. y.key) rows.students k x low at))))
+      ∙ ap (map (number_in i.project_keys)) (student_says rows i lawful for k x k low at
+      (rw same_students (key_number (λ y. y.key) rows.students k x low at))))
 
   same_offers : i.lecturers ≡ map (λ (x : ProjectWithLecturer). number_in i.lecturer_keys x.lecturer) rows.projects
-  same_offers = column_is (λ (x : ProjectWithLecturer). number_in i.lecturer_keys x.lecturer) 0 rows.projects i.lecturers (sym lawful.project_key_rows ∙ for.project_count) (λ k x low at.
-      sym (own_number i.lecturer_keys (lecturer_of i k) lawful.lecturer_keys_rise (omega (arith, lawful.offered k (omega (arith, lawful.project_key_rows, for.project_count)), lawful.lecturer_key_rows)))
+  same_offers = column_is (λ (x : ProjectWithLecturer). number_in i.lecturer_keys x.lecturer) 0 rows.projects i.lecturers
+      (sym lawful.project_key_rows ∙ for.project_count) (λ k x low at.
+      sym (own_number i.lecturer_keys (lecturer_of i k) lawful.lecturer_keys_rise
+      (omega (arith, lawful.offered k (omega (arith, lawful.project_key_rows, for.project_count)), lawful.lecturer_key_rows)))
       ∙ ap (number_in i.lecturer_keys) (project_at k x low at).1)
 
   same_capacities : i.capacities ≡ map (λ (x : ProjectWithLecturer). x.capacity) rows.projects
-  same_capacities = column_is (λ (x : ProjectWithLecturer). x.capacity) 0 rows.projects i.capacities (lawful.project_rows ∙ sym lawful.project_key_rows ∙ for.project_count) (λ k x low at. (project_at k x low at).0)
+  same_capacities = column_is (λ (x : ProjectWithLecturer). x.capacity) 0 rows.projects i.capacities
+      (lawful.project_rows ∙ sym lawful.project_key_rows ∙ for.project_count) (λ k x low at. (project_at k x low at).0)
 
   same_rankings : i.rankings ≡ map (λ (x : LecturerWithList). map (number_in i.student_keys) x.list) rows.lecturers
-  same_rankings = column_is (λ (x : LecturerWithList). map (number_in i.student_keys) x.list) [] rows.lecturers i.rankings (sym lawful.lecturer_key_rows ∙ for.lecturer_count) (λ k x low at.
+  same_rankings = column_is (λ (x : LecturerWithList). map (number_in i.student_keys) x.list) [] rows.lecturers i.rankings
+      (sym lawful.lecturer_key_rows ∙ for.lecturer_count) (λ k x low at.
       sym (numbers_back i.student_keys (ranking_of i k) lawful.student_keys_rise (ranking_below i lawful k))
       ∙ ap (map (number_in i.student_keys)) (lecturer_at k x low at).1)
 
   same_limits : i.limits ≡ map (λ (x : LecturerWithList). x.capacity) rows.lecturers
-  same_limits = column_is (λ (x : LecturerWithList). x.capacity) 0 rows.lecturers i.limits (lawful.lecturer_rows ∙ sym lawful.lecturer_key_rows ∙ for.lecturer_count) (λ k x low at. (lecturer_at k x low at).0)
+  same_limits = column_is (λ (x : LecturerWithList). x.capacity) 0 rows.lecturers i.limits
+      (lawful.lecturer_rows ∙ sym lawful.lecturer_key_rows ∙ for.lecturer_count) (λ k x low at. (lecturer_at k x low at).0)
 
   pub only_instance : i ≡ spa_of_rows rows
   only_instance = λ j. record {

@@ -14,8 +14,12 @@ wanted : (ss : List Student) (l : Key) (ps : List ProjectRow)
     → list_any (λ s. list_any (λ p. has s.choice p.key) (filter (λ p. equals p.lecturer l) ps)) ss ≡ is_wanted ss ps l
 wanted ss l [] = any_nowhere ss
 wanted ss l (p ∷ ps) =
-    elim (equals p.lecturer l) as (λ b. list_any (λ s. list_any (λ q. has s.choice q.key) (cond b (p ∷ filter (λ q. equals q.lecturer l) ps) (filter (λ q. equals q.lecturer l) ps))) ss ≡ ((b && list_any (λ s. has s.choice p.key) ss) || is_wanted ss ps l)) [
-      | true ↦ any_or (λ (s : Student). has s.choice p.key) (λ s. list_any (λ q. has s.choice q.key) (filter (λ q. equals q.lecturer l) ps)) ss ∙ ap (λ b. list_any (λ s. has s.choice p.key) ss || b) (wanted ss l ps)
+    elim (equals p.lecturer l) as (λ b. list_any
+    (λ s. list_any (λ q. has s.choice q.key) (cond b (p ∷ filter (λ q. equals q.lecturer l) ps) (filter (λ q. equals q.lecturer l) ps)))
+    ss ≡ ((b && list_any (λ s. has s.choice p.key) ss) || is_wanted ss ps l)) [
+      | true ↦ any_or (λ (s : Student). has s.choice p.key)
+          (λ s. list_any (λ q. has s.choice q.key) (filter (λ q. equals q.lecturer l) ps)) ss
+          ∙ ap (λ b. list_any (λ s. has s.choice p.key) ss || b) (wanted ss l ps)
       | false ↦ wanted ss l ps
     ]
 
@@ -25,5 +29,6 @@ waiting_is w l =
     ∙ ap (λ b. b && is_none l.ranking) (sym (any_left _ w.students ∙ wanted w.students l.row.key w.projects))
 
 pub waiting_lecturers : (w : World)
-    → map (λ (l : Lecturer). l.row.key) (filter (is_waiting w.students w.projects) w.lecturers) ≡ map (λ l. l.row.key) (filter (is_still_to_rank w) w.lecturers)
+    → map (λ (l : Lecturer). l.row.key) (filter (is_waiting w.students w.projects) w.lecturers)
+    ≡ map (λ l. l.row.key) (filter (is_still_to_rank w) w.lecturers)
 waiting_lecturers w = λ i. map (λ (l : Lecturer). l.row.key) (filter (λ l. waiting_is w l i) w.lecturers)

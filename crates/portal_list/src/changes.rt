@@ -1,58 +1,48 @@
-//! Replaces a list or a ranking in the entries; the submodules make the other changes.
+//! Replaces a list or a ranking in the entries, and moves them to the first round's fields; the
+//! submodules make the other changes.
 
-ghost use Rattle.std.specs.Prelude.{◌≡◌, OnOk, OnErr, map};
-ghost use Rattle.portal_rules.specs.Words.{Rise};
-ghost use Rattle.portal_rules.specs.World.{student_key, lecturer_key, with_choice, with_ranking};
+ghost use Rattle.std.specs.Prelude.{◌≡◌, OnOk, OnErr, map, if◌then◌else◌};
+ghost use Rattle.portal_rules.specs.Words.{Rise, equals};
 
 mod fill;
 mod new_rows;
-mod opening;
 mod placements;
 
-use crate::entries::{LecturerEntry, StudentEntry};
+use crate::entries::Entry;
 use crate::keys::index_of;
 pub(crate) use fill::fill_rankings;
 pub(crate) use new_rows::{add_rows, new_lecturers, new_students};
-pub(crate) use opening::{lay_by_lists, lay_by_rankings};
 pub(crate) use placements::place_all;
-use portal_rules::copy_keys;
+use portal_rules::{Keyed, copy_keys};
 use spa_rows::Key;
 use std::alloc::{AllocError, Global};
 
-/// Replaces the list of the student with this key, in the entries.
-pub(crate) fn replace_choice(
+/// Replaces the list of the entry with this key.
+pub(crate) fn replace_list<T: Keyed + Entry>(
     alloc: Global,
-    students: &mut [StudentEntry],
+    entries: &mut [T],
     key: &Key,
     list: &[Key],
 ) -> Result<(), AllocError>
-    ensures made { OnOk result (Rise (map student_key students.old)
-        → students.new ≡ map (with_choice key.now list.now) students.old) }
-    ensures same { OnErr result (students.new ≡ students.old) }
+    ensures made { OnOk result (Rise (map T.key_of entries.old)
+        → entries.new ≡ map
+        (λ e. if equals (T.key_of e) key.now then T.with_list list.now e else e) entries.old) }
+    ensures same { OnErr result (entries.new ≡ entries.old) }
 {
     let list = copy_keys(alloc, list)?;
-    if let Some(place) = index_of(students, key) {
-        let student = &mut students[place];
-        student.choice = list;
+    if let Some(place) = index_of(entries, key) {
+        let entry = &mut entries[place];
+        entry.set_list(list);
     }
     Ok(())
 }
 
-/// Replaces the ranking of the lecturer with this key, in the entries.
-pub(crate) fn replace_ranking(
-    alloc: Global,
-    lecturers: &mut [LecturerEntry],
-    key: &Key,
-    list: &[Key],
-) -> Result<(), AllocError>
-    ensures made { OnOk result (Rise (map lecturer_key lecturers.old)
-        → lecturers.new ≡ map (with_ranking key.now list.now) lecturers.old) }
-    ensures same { OnErr result (lecturers.new ≡ lecturers.old) }
+/// Moves what is of the current round into the fields of the first, in all entries, without
+/// allocating.
+pub(crate) fn lay_by_all<T: Entry>(alloc: Global, entries: &mut [T])
+    ensures { entries.new ≡ map T.laid_by entries.old }
 {
-    let list = copy_keys(alloc, list)?;
-    if let Some(place) = index_of(lecturers, key) {
-        let lecturer = &mut lecturers[place];
-        lecturer.ranking = Some(list);
+    for entry in entries.iter_mut() {
+        entry.lay_by(alloc);
     }
-    Ok(())
 }

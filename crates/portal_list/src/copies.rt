@@ -4,7 +4,8 @@ ghost use Rattle.std.specs.Prelude.{◌≡◌, [], None, IfOk, option_map};
 ghost use Rattle.portal_rules.specs.Words.{has};
 
 use crate::entries::StudentEntry;
-use portal_rules::{Name, Person, ProjectRow, StudentRow, copy_keys, try_map};
+use portal_rules::collecting::try_map;
+use portal_rules::{Name, Person, ProjectRow, StudentRow, copy_keys};
 use spa_rows::Key;
 use std::alloc::{AllocError, Global};
 

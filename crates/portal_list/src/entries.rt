@@ -1,16 +1,18 @@
 //! Entries: rows of the rolls, joined with lists and rankings. `follow` and `place` change them.
 
-ghost use Rattle.std.specs.Prelude.{◌≡◌, true, false, Ok, IfOk, OnOk, OnErr, map};
-ghost use Rattle.portal_rules.specs.World.{World, changed, with_place};
+ghost use Rattle.std.specs.Prelude.{◌≡◌, true, false, Ok, Some, IfOk, OnOk, OnErr, map};
+ghost use Rattle.portal_rules.specs.World.{World, changed, with_place, ranked_before};
+ghost use Rattle.portal_rules.specs.World.{placed_before};
 ghost use Rattle.portal_rules.specs.Good.{Sound};
 ghost use Rattle.portal_rules.specs.Meaning.{change_model};
 ghost use Rattle.portal_list.specs.Rows.{HasEntries, is_followed};
 
-use crate::changes::{fill_rankings, place_all, replace_choice, replace_ranking};
+use crate::changes::{fill_rankings, place_all, replace_list};
 use portal_rules::{Change, LecturerRow, ProjectRow, Round, StudentRow};
 use spa_rows::Key;
 use std::alloc::{AllocError, Global};
 use std::marker::Model;
+use std::mem;
 
 /// A lecturer's row, and the ranking of the current round if there is one. In the second round it
 /// also has the ranking of the first.
@@ -59,6 +61,55 @@ impl Model for StudentEntry {
     } };
 }
 
+/// An entry with a list of the current round, a lecturer's ranking or a student's choice.
+pub(crate) trait Entry {
+    ghost use Rattle.std.specs.Prelude.{List};
+    ghost use Rattle.portal_rules.specs.Words.{Key};
+
+    /// The entry with this list.
+    ghost with_list: { List Key → Self → Self };
+
+    /// The entry in a new round, before anything of that round is in it.
+    ghost laid_by: { Self → Self };
+
+    /// Replaces the list.
+    fn set_list(&mut self, list: Vec<Key>)
+        ensures { self.new ≡ with_list list.items self.old };
+
+    /// Moves what is of the current round into the fields of the first, without allocating.
+    fn lay_by(&mut self, alloc: Global)
+        ensures { self.new ≡ laid_by self.old };
+}
+
+impl Entry for LecturerEntry {
+    ghost with_list = { λ list l. record l { ranking = Some list } };
+
+    ghost laid_by = { ranked_before };
+
+    fn set_list(&mut self, list: Vec<Key>) {
+        self.ranking = Some(list);
+    }
+
+    fn lay_by(&mut self, _alloc: Global) {
+        self.earlier_ranking = self.ranking.take();
+    }
+}
+
+impl Entry for StudentEntry {
+    ghost with_list = { λ list s. record s { choice = list } };
+
+    ghost laid_by = { placed_before };
+
+    fn set_list(&mut self, list: Vec<Key>) {
+        self.choice = list;
+    }
+
+    fn lay_by(&mut self, alloc: Global) {
+        self.earlier_choice = mem::replace(&mut self.choice, Vec::new(alloc));
+        self.earlier_placement = self.placed.take();
+    }
+}
+
 /// The entries of a world, in the order of its rolls.
 #[derive(Drop)]
 pub struct Entries {
@@ -104,11 +155,11 @@ impl Entries {
     {
         match change {
             Change::Choices { student, projects } => {
-                replace_choice(alloc, &mut self.students, student, projects)?;
+                replace_list(alloc, &mut self.students, student, projects)?;
                 Ok(true)
             }
             Change::Ranking { lecturer, students } => {
-                replace_ranking(alloc, &mut self.lecturers, lecturer, students)?;
+                replace_list(alloc, &mut self.lecturers, lecturer, students)?;
                 Ok(true)
             }
             Change::Fill => {

@@ -13,7 +13,8 @@ ghost use Rattle.portal_list.specs.inner.Lines.{instance_student, instance_rows}
 use crate::entries::{Entries, LecturerEntry, StudentEntry};
 use crate::from_rows::RowsFault;
 use crate::second_round::entries_in_play;
-use portal_rules::{ProjectRow, Round, try_map};
+use portal_rules::collecting::try_map;
+use portal_rules::{ProjectRow, Round};
 use spa_model::{Instance, InstanceFault, InstanceRows, LecturerLine, ProjectLine, StudentLine};
 use spa_rows::Key;
 use std::alloc::{AllocError, Global};

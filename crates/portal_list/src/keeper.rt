@@ -9,7 +9,7 @@ ghost use Rattle.portal_rules.specs.World.{SecondRound};
 ghost use Rattle.portal_rules.specs.Meaning.{change_model};
 ghost use Rattle.portal_list.specs.Rows.{is_followed};
 
-use crate::changes::{add_rows, lay_by_lists, lay_by_rankings, new_lecturers, new_students};
+use crate::changes::{add_rows, lay_by_all, new_lecturers, new_students};
 use crate::copies::project_rows_of;
 use crate::entries::Entries;
 use crate::instance::instance_of;
@@ -185,8 +185,8 @@ impl ListKeeper {
         match (self.entries.round, self.phase) {
             (Round::First, Phase::Published) => {
                 self.catalogue = None;
-                lay_by_rankings(&mut self.entries.lecturers);
-                lay_by_lists(alloc, &mut self.entries.students);
+                lay_by_all(alloc, &mut self.entries.lecturers);
+                lay_by_all(alloc, &mut self.entries.students);
                 self.entries.round = Round::Second;
                 self.phase = Phase::Choosing;
             }

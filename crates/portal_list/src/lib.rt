@@ -1,4 +1,4 @@
-//! A keeper that stores the world in memory, in vectors of rows.
+//! Entries of a world in memory, the checks that rows of a world pass, and a keeper over entries.
 #![tactic(auto)]
 
 mod applicant_index;

@@ -10,7 +10,8 @@ ghost use Rattle.portal_list.specs.inner.Played.{lecturer_played, project_played
 
 use crate::copies::{pair_copy, ranking_copy, student_copy};
 use crate::entries::{Entries, LecturerEntry, StudentEntry};
-use portal_rules::{ProjectRow, Round, lecturer_left, project_left, try_filter_map, try_map_where};
+use portal_rules::collecting::{try_filter_map, try_map_where};
+use portal_rules::{ProjectRow, Round, lecturer_left, project_left};
 use spa_rows::Key;
 use std::alloc::{AllocError, Global};
 

@@ -15,7 +15,8 @@ use crate::instance::instance_of;
 use crate::keeper::ListKeeper;
 use crate::list_checks::lists_fit;
 use crate::second_round::takes_part;
-use portal_rules::{Phase, Round, try_map, try_map_where};
+use portal_rules::collecting::{try_map, try_map_where};
+use portal_rules::{Phase, Round};
 use spa_check::is_stable;
 use spa_model::{Instance, Matching};
 use std::alloc::{AllocError, Global};
@@ -74,7 +75,7 @@ fn first_lecturer(alloc: Global, lecturer: &LecturerEntry) -> Result<LecturerEnt
 
 impl ListKeeper {
     /// Returns whether the result of the current round, if published, is a stable matching.
-    fn is_settled(&self, alloc: Global) -> Result<bool, AllocError>
+    fn has_stable_result(&self, alloc: Global) -> Result<bool, AllocError>
         requires { Sound self.now }
         ensures { IfOk result (λ yes. IsTrue yes ↔ IsStableIfPublished self.now) }
     {
@@ -142,7 +143,7 @@ impl ListKeeper {
         if !self.is_sound(alloc)? {
             return Ok(false);
         }
-        self.is_settled(alloc)
+        self.has_stable_result(alloc)
     }
 
     /// Returns whether the published first round is sound and stable, or `true` in the first round.
@@ -166,7 +167,7 @@ impl ListKeeper {
         requires { Sound self.now }
         ensures { IfOk result (λ good. IsTrue good ↔ Good self.now) }
     {
-        if !self.is_settled(alloc)? {
+        if !self.has_stable_result(alloc)? {
             return Ok(false);
         }
         self.is_before_good(alloc)

@@ -4,7 +4,7 @@ use Rattle.portal_rules.proofs.Base.{◌≡◌, ℕ, ◌≤◌, Bool, false, tru
 use Rattle.portal_rules.proofs.Base.{ap, subst, arith, inl, inr, AllByRecursion, Key, equals, World, changed, Choices, Lecturers}
 use Rattle.portal_rules.proofs.Base.{Projects, Students, To, view, AbstractCall, Answer, answer, Good, Sound, Request, Calls}
 use Rattle.portal_rules.proofs.Base.{Run, Serves, Step, AllAnswered, unavailable, Heard, HeardItem, Asked, replies_to}
-use Rattle.portal_rules.proofs.Base.{SameButPlaces, SameRequest, AllZip, Reordered, turn, sets}
+use Rattle.portal_rules.proofs.Base.{SameUpToListOrder, SameRequest, AllZip, Reordered, Turn, Sets}
 use Rattle.portal_rules.proofs.Reorder.{reordered_itself}
 use Rattle.portal_rules.specs.declared.phase.Phase.TheVariants.{Setup, Choosing, Ranking}
 use Rattle.portal_rules.specs.declared.phase.Round.TheVariants.{First}
@@ -117,7 +117,11 @@ good_opened =
     ∷ answer (view with_projects office) (AbstractCall.AddStudents students)
     ∷ answer (view with_students office) (AbstractCall.Move Choosing None) ∷ [])
     (with_lecturers ∷ with_projects ∷ with_students ∷ opened ∷ []) good_new (
-      inl (record { form = (record { key = refl; name = is_named; code = refl; low = omega arith; high = omega arith }, tt); told = refl; left = refl }),
+      inl (record {
+        form = (record { key = refl; name = is_named; code = refl; low = omega arith; high = omega arith }, tt);
+        told = refl;
+        left = refl;
+      }),
       (
         inl (record {
           form = (
@@ -161,7 +165,8 @@ status_of (a ∷ told) = a.status
 pub not_always : SameAlways → ⊥
 unfolding status_of
 not_always law =
-    let same = law ann opened opened looks looks (unavailable ∷ []) (answer (view opened ann) AbstractCall.ShowChoices ∷ []) (opened ∷ []) (opened ∷ []) own (inr (refl, refl), tt) heard (inl (record { form = tt; told = refl; left = refl }), tt) heard refl in
+    let same = law ann opened opened looks looks (unavailable ∷ []) (answer (view opened ann) AbstractCall.ShowChoices ∷ []) (opened ∷ [])
+    (opened ∷ []) own (inr (refl, refl), tt) heard (inl (record { form = tt; told = refl; left = refl }), tt) heard refl in
     omega (arith, ap status_of same)
 
 -- ---- a list that is refused does not count
@@ -181,7 +186,8 @@ stranger = codes "nobodys-code"
 pub not_refused : CountsAlways → ⊥
 not_refused law =
     let r : Request = by stranger (AbstractCall.SetChoices (codes "P1" ∷ [])) in
-    let after = law opened opened r (answer (view opened stranger) (AbstractCall.SetChoices (codes "P1" ∷ []))) (λ c. None) good_opened (inl (record { form = tt; told = refl; left = refl })) none_yet in
+    let after = law opened opened r (answer (view opened stranger) (AbstractCall.SetChoices (codes "P1" ∷ []))) (λ c. None) good_opened
+    (inl (record { form = tt; told = refl; left = refl })) none_yet in
     let clash : Some (codes "P1" ∷ []) ≡ None = after.others stranger refl in
     cc
 
@@ -189,7 +195,7 @@ not_refused law =
 
 abbrev OrderHidden : Type 0
 OrderHidden =
-    (v w : World) (asked others : List Request) (told : List Answer) (after : List World) → Good w → SameButPlaces v w
+    (v w : World) (asked others : List Request) (told : List Answer) (after : List World) → Good w → SameUpToListOrder v w
     → AllZip SameRequest asked others → Run v asked told after → AllAnswered told
     → (said : List Answer) × (later : List World) × Run w others said later × AllAnswered said × (told ≡ said)
 
@@ -202,14 +208,23 @@ tides_first = codes "P1" ∷ codes "P" ∷ []
 abbrev kites_first : List Key
 kites_first = codes "P" ∷ codes "P1" ∷ []
 
-same_opened : SameButPlaces opened opened
+same_opened : SameUpToListOrder opened opened
 same_opened = record {
   round = refl;
   phase = refl;
   office = refl;
   lecturers = refl;
   projects = refl;
-  students = (record { row = refl; choice = reordered_itself []; placed = refl; earlier_choice = reordered_itself []; earlier_placement = refl }, tt);
+  students = (
+    record {
+      row = refl;
+      choice = reordered_itself [];
+      placed = refl;
+      earlier_choice = reordered_itself [];
+      earlier_placement = refl;
+    },
+    tt,
+  );
 }
 
 abbrev reply_to_list : List Key → Answer
@@ -228,8 +243,13 @@ orders_differ e = cc
 
 pub not_hidden : OrderHidden → ⊥
 not_hidden law =
-    let other = law opened opened (sets_list tides_first ∷ []) (sets_list kites_first ∷ []) (reply_to_list tides_first ∷ []) (after_list tides_first ∷ []) good_opened same_opened (record { code = refl; head = refl; closes = refl; wish = sets (turn (codes "P1") (codes "P") []) }, tt) (inl (record { form = tt; told = refl; left = refl }), tt) (known (reply_to_list tides_first) refl, tt) in
-    let one = one_run opened (sets_list kites_first ∷ []) other.0 (reply_to_list kites_first ∷ []) other.1 (after_list kites_first ∷ []) other.2 other.3 (inl (record { form = tt; told = refl; left = refl }), tt) (known (reply_to_list kites_first) refl, tt) in
+    let other = law opened opened (sets_list tides_first ∷ []) (sets_list kites_first ∷ []) (reply_to_list tides_first ∷ [])
+    (after_list tides_first ∷ []) good_opened same_opened
+    (record { code = refl; head = refl; closes = refl; wish = Sets (Turn (codes "P1") (codes "P") []) }, tt)
+    (inl (record { form = tt; told = refl; left = refl }), tt) (known (reply_to_list tides_first) refl, tt) in
+    let one = one_run opened (sets_list kites_first ∷ []) other.0 (reply_to_list kites_first ∷ []) other.1
+    (after_list kites_first ∷ []) other.2 other.3 (inl (record { form = tt; told = refl; left = refl }), tt)
+    (known (reply_to_list kites_first) refl, tt) in
     orders_differ (ap body_of (other.4 ∙ one.0))
 
 -- ---- once ranking opens, applicants are seen
@@ -262,10 +282,13 @@ not_purged law =
     let w = after_list tides_first in
     let moved : World → Answer = λ u. answer (view u office) (AbstractCall.Move Ranking None) in
     let other = law lee opened (sets_list tides_first ∷ closes ∷ by lee AbstractCall.Applicants ∷ [])
-    (reply_to_list tides_first ∷ moved w ∷ applicants w ∷ []) (w ∷ ranked w ∷ ranked w ∷ []) good_opened refl
-    (inl (record { form = tt; told = refl; left = refl }), (inl (record { form = tt; told = refl; left = refl }), (inl (record { form = tt; told = refl; left = refl }), tt)))
+    (reply_to_list tides_first ∷ moved w ∷ applicants w ∷ []) (w ∷ ranked w ∷ ranked w ∷ []) good_opened refl (
+      inl (record { form = tt; told = refl; left = refl }),
+      (inl (record { form = tt; told = refl; left = refl }), (inl (record { form = tt; told = refl; left = refl }), tt)),
+    )
     (known (reply_to_list tides_first) refl, (known (moved w) refl, (known (applicants w) refl, tt))) in
-    let one = one_run opened (closes ∷ by lee AbstractCall.Applicants ∷ []) other.0 (moved opened ∷ applicants opened ∷ []) other.1 (ranked opened ∷ ranked opened ∷ []) other.2 other.3
+    let one = one_run opened (closes ∷ by lee AbstractCall.Applicants ∷ []) other.0 (moved opened ∷ applicants opened ∷ []) other.1
+    (ranked opened ∷ ranked opened ∷ []) other.2 other.3
     (inl (record { form = tt; told = refl; left = refl }), (inl (record { form = tt; told = refl; left = refl }), tt))
     (known (moved opened) refl, (known (applicants opened) refl, tt)) in
     applicants_differ (ap body_of (ap (replies_to lee (closes ∷ by lee AbstractCall.Applicants ∷ [])) (sym one.0) ∙ other.4))

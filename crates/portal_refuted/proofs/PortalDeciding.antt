@@ -11,7 +11,7 @@ use Rattle.portal_rules.specs.Answer.{Said, Json, answered, still_to_rank, shows
 use Rattle.portal_rules.specs.Bodies.{students_body, projects_body, phase_body, catalogue_body}
 use Rattle.serde_json.specs.Data.{Data, Items, no_items, item, Members, no_members, member, null, string, array}
 use Rattle.serde_json.specs.Data.{object}
-use Rattle.portal_rules.specs.Sight.{AbstractCall}
+use Rattle.portal_rules.specs.Calls.{AbstractCall}
 use Rattle.portal_rules.specs.View.{view, listings}
 use Rattle.portal_rules.specs.Words.{Key}
 use Rattle.portal_rules.specs.World.{World, Change, Choices, Ranks, Lecturers, Projects, Students, Placements}

@@ -5,7 +5,7 @@ use Rattle.std.specs.Prelude.{codes}
 use Rattle.portal_rules.specs.Answer.{Answer, answered}
 use Rattle.portal_rules.specs.Bodies.{projects_body, filled_body}
 use Rattle.portal_rules.specs.Run.{Request, Calls, Serves, unavailable}
-use Rattle.portal_rules.specs.Sight.{AbstractCall}
+use Rattle.portal_rules.specs.Calls.{AbstractCall}
 use Rattle.portal_rules.specs.Words.{Key}
 use Rattle.portal_rules.specs.World.{World, Student, Choices, Fill, changed}
 use Rattle.portal_rules.specs.examples.Worked.{listed}

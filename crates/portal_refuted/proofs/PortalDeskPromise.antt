@@ -1,4 +1,4 @@
--- Refutes the main promise, part by part: of visits that are no run, leave a bad world, show a list to
+-- Refutes the main promise, part by part: of exchanges that are no run, leave a bad world, show a list to
 -- others, publish or show a worse result, or give a caller other replies.
 use Rattle.std.proofs.Common.{◌≡◌, ℕ, ◌<◌, inl, inr, true, false, List, [], ◌∷◌, length, None}
 use Rattle.std.proofs.Common.{refl, ap, arith}
@@ -11,13 +11,12 @@ use Rattle.portal_rules.specs.Answer.{Answer}
 use Rattle.portal_rules.specs.Good.{instance, matching_of}
 use Rattle.portal_rules.specs.Heard.{Asked, HeardItem}
 use Rattle.portal_rules.specs.Run.{Calls, Serves, unavailable}
-use Rattle.portal_rules.specs.Sight.{AbstractCall}
+use Rattle.portal_rules.specs.Calls.{AbstractCall}
 use Rattle.portal_rules.specs.World.{World, Choices, changed}
 use Rattle.portal_core.specs.Honest.{ShowsBest}
 use Rattle.portal_wire.specs.Conversation.{Closed, Exchange, common_lines, reply_text}
 use Rattle.portal_wire.specs.Wish.{route_at, the_paths}
-use Rattle.portal_desk.specs.Headline.{AreVisits, IsAnswered, Hears, IsLikeAll, IsUpheld, IsVisit, Visit}
-use Rattle.portal_desk.specs.Session.{Ended}
+use Rattle.portal_desk.specs.Headline.{IsAnswered, Hears, IsLikeAll, IsUpheld, ServesAnswered}
 use Rattle.spa_model.specs.Spa.{IsBest}
 use Rattle.spa_model.specs.declared.letter.Letter.TheVariants.{A}
 use Rattle.portal_refuted.proofs.GoodWorld.{ann, ben, published, published_best, published_good}
@@ -95,24 +94,19 @@ shows_best = record { good = published_good; now = λ e. published_best; before 
 pub worse_result_afterwards_is_not_best : (e : Exchange) → IsUpheld published (e ∷ []) (nobody_placed ∷ []) → ⊥
 worse_result_afterwards_is_not_best e upheld = not_best ((upheld.best shows_best).0.now refl)
 
--- ---- the right visit: a path that nobody has, and its 404
+-- ---- the right exchange: a path that nobody has, and its 404
 
-abbrev pub right : Visit
-right = record {
-  bytes = plain_bytes;
-  written = sent;
-  finish = Ended Closed;
-  exchanges = exchange ∷ [];
-  worlds = published ∷ [];
-}
+right_answered : IsAnswered [] (exchange ∷ [])
+right_answered = ((λ is. omega (arith, ap (λ (a : Answer). a.status) is)), tt)
 
-is_right : IsVisit published right
+is_right : ServesAnswered published plain_bytes Closed (exchange ∷ []) sent (published ∷ [])
 unfolding route_at the_paths
-is_right = record { tells = plain_tells; run = (inl (refl, refl), tt) }
+is_right = record { tells = plain_tells; run = (inl (refl, refl), tt); answered = right_answered }
 
-pub right_visit_is_upheld : AreVisits published (right ∷ []) × IsUpheld published right.exchanges right.worlds
-right_visit_is_upheld = (
-  (is_right, tt),
+pub right_exchange_is_upheld : ServesAnswered published plain_bytes Closed (exchange ∷ []) sent (published ∷ [])
+    × IsUpheld published (exchange ∷ []) (published ∷ [])
+right_exchange_is_upheld = (
+  is_right,
   record {
     run = is_right.run;
     good = (published_good, tt);
@@ -123,9 +117,6 @@ right_visit_is_upheld = (
 )
 
 -- ---- alike: other replies to a caller who asks the same
-
-right_answered : IsAnswered [] (exchange ∷ [])
-right_answered = ((λ is. omega (arith, ap (λ (a : Answer). a.status) is)), tt)
 
 abbrev heard : List HeardItem
 heard = Asked false true exchange.request.wish ∷ []
@@ -148,7 +139,8 @@ pub other_reply_is_not_alike : (a : Answer) → digit (reply_text a false true) 
     → IsLikeAll published (replied a) (published ∷ []) → ⊥
 unfolding first_text
 other_reply_is_not_alike a low answered like =
-    let same = like published (exchange ∷ []) (published ∷ []) is_right.run [] heard answered right_answered refl (hears a) (hears no_route_reply) in
+    let same = like published (exchange ∷ []) (published ∷ []) is_right.run [] heard answered right_answered refl (hears a)
+    (hears no_route_reply) in
     omega (arith, low, not_found, ap (λ ts. digit (first_text ts)) same.0)
 
 abbrev yes_to_all : Answer

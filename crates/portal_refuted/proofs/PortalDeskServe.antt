@@ -9,7 +9,7 @@ use Rattle.std.specs.Fmt.{digits}
 use Rattle.std.specs.Prelude.{Result}
 use Rattle.std.proofs.lemmas.List.{append_cancel_left}
 use Rattle.portal_frame.proofs.Unique.{Opens-unique}
-use Rattle.portal_frame.specs.Stream.{Opens, RequestContent, fault, over, whole}
+use Rattle.portal_frame.specs.Stream.{Opens, RequestContent, Faulty, Over, Whole}
 use Rattle.portal_rules.specs.Answer.{Answer}
 use Rattle.portal_rules.specs.Run.{Request, Run, Serves, unavailable}
 use Rattle.portal_rules.specs.Keeping.{KeeperState}
@@ -17,14 +17,14 @@ use Rattle.portal_rules.specs.World.{World}
 use Rattle.portal_rules.specs.examples.Worked.{listed}
 use Rattle.portal_wire.specs.Conversation.{Closed, End, Ends, Exchange, Last, Leads, Limit, Reaches, Refused, Rest}
 use Rattle.portal_wire.specs.Conversation.{closes_at, common_lines, connection_limit}
-use Rattle.portal_wire.specs.Conversation.{last, more, reply_text, request_of, shut, text}
+use Rattle.portal_wire.specs.Conversation.{last, More, reply_text, request_of, Shut, text}
 use Rattle.portal_wire.specs.Wish.{answer_to, no_route, route_at, the_paths}
 use Rattle.portal_wire.specs.declared.Ending.{Ending}
 use Rattle.portal_wire.specs.declared.Ending.TheVariants as ending
 use Rattle.portal_desk.specs.declared.served.Cause.TheVariants as cause
 use Rattle.portal_desk.specs.declared.served.ServeFault.{ServeFault}
 use Rattle.portal_desk.specs.declared.served.Served.{Served}
-use Rattle.portal_desk.specs.Kept.{Blames, Kept, Moves, taken_limit}
+use Rattle.portal_desk.specs.Kept.{Blames, DeskState, Moves, taken_limit}
 use Rattle.portal_desk.specs.Session.{Ended, ServesOne, Stopped, TellsExchanges}
 use Rattle.portal_refuted.proofs.Keepers.{lists}
 use Rattle.portal_refuted.proofs.PortalFrame.{plain_asked, plain_bytes, plain_opens}
@@ -36,29 +36,33 @@ unfolding common_lines
 begins a head closes rest = refl
 
 pub some_text : (e : Exchange) (es : List Exchange) (rest : List ℕ) → text (e ∷ es) ++ rest ≡ [] → ⊥
-some_text e es rest none = omega (arith, begins e.reply e.request.head e.request.closes (text es ++ rest), ap (λ t. get_or t 0 0) (sym (append_assoc (reply_text e.reply e.request.head e.request.closes) (text es) rest) ∙ none))
+some_text e es rest none = omega (
+  arith,
+  begins e.reply e.request.head e.request.closes (text es ++ rest),
+  ap (λ t. get_or t 0 0) (sym (append_assoc (reply_text e.reply e.request.head e.request.closes) (text es) rest) ∙ none),
+)
 
 not_itself_twice : (bytes : List ℕ) → bytes ++ bytes ≡ bytes → bytes ≡ []
 not_itself_twice bytes twice = append_cancel_left bytes bytes [] (twice ∙ sym (append-nil bytes))
 
 -- ---- a request that is not counted, whatever the desk and the stream
 
-pub no_end : (bytes : List ℕ) (a : RequestContent) (after : List ℕ) → Opens bytes (whole a after)
+pub no_end : (bytes : List ℕ) (a : RequestContent) (after : List ℕ) → Opens bytes (Whole a after)
     → (end : Last) (closing : List ℕ)
-    → Ends (more bytes) end closing → ⊥
-no_end bytes a after opens End closing ends = let same = Opens-unique bytes (whole a after) over opens ends.0 in cc
+    → Ends (More bytes) end closing → ⊥
+no_end bytes a after opens End closing ends = let same = Opens-unique bytes (Whole a after) Over opens ends.0 in cc
 no_end bytes a after opens (Refused word) closing ends =
-    let same = Opens-unique bytes (whole a after) (fault ends.0 ends.1) opens ends.2 in cc
+    let same = Opens-unique bytes (Whole a after) (Faulty ends.0 ends.1) opens ends.2 in cc
 no_end bytes a after opens Closed closing ends = ends
 no_end bytes a after opens Limit closing ends = ends
 
-pub end_before_a_whole_request_tells_no_exchanges : {K : Type 0} (state : K → KeeperState) (old new : Kept K)
+pub end_before_a_whole_request_tells_no_exchanges : {K : Type 0} (state : K → KeeperState) (old new : DeskState K)
     (bytes : List ℕ)
     (a : RequestContent) (after : List ℕ) (end : Ending) (left before now : Option (List ℕ))
-    → Opens bytes (whole a after)
+    → Opens bytes (Whole a after)
     → ServesOne state (Ok (record { requests = 0; ending = end })) old new (Some bytes) left before now → ⊥
 end_before_a_whole_request_tells_no_exchanges state old new bytes a after end left before now opens one =
-    by_list one.served.0 one.served.1.written one.served.1.counted one.served.1.tells
+    by_list one.served.exchanges one.served.written one.served.counted one.served.session.tells
   where
     by_list : (es : List Exchange) (written : List ℕ) → 0 ≡ length es
         → TellsExchanges (Ended (last end)) bytes es written → ⊥
@@ -68,13 +72,13 @@ end_before_a_whole_request_tells_no_exchanges state old new bytes a after end le
 
 -- ---- replies that are counted and not written, whatever the stream
 
-pub counted_request_without_a_reply_tells_no_exchanges : {K : Type 0} (state : K → KeeperState) (old new : Kept K)
+pub counted_request_without_a_reply_tells_no_exchanges : {K : Type 0} (state : K → KeeperState) (old new : DeskState K)
     (bytes : List ℕ)
     (n : ℕ) (end : Ending) (left : Option (List ℕ))
     → ServesOne state (Ok (record { requests = n + 1; ending = end })) old new (Some bytes) left (Some []) (Some [])
     → ⊥
 counted_request_without_a_reply_tells_no_exchanges state old new bytes n end left one =
-    by_list one.served.0 one.served.1.written one.served.1.counted one.served.1.adds one.served.1.tells
+    by_list one.served.exchanges one.served.written one.served.counted one.served.adds one.served.session.tells
   where
     by_list : (es : List Exchange) (written : List ℕ) → n + 1 ≡ length es → [] ≡ written
         → TellsExchanges (Ended (last end)) bytes es written → ⊥
@@ -89,23 +93,25 @@ cut es written closes counted adds (g ∷ front) f k is wrote =
     some_text g front (take k (reply_text f.reply f.request.head (f.request.closes || closes))) (sym (adds ∙ wrote))
 
 -- two requests acted, and the first reply was not written
-pub acting_on_after_a_write_fault_tells_no_exchanges : {K : Type 0} (state : K → KeeperState) (old new : Kept K)
+pub acting_on_after_a_write_fault_tells_no_exchanges : {K : Type 0} (state : K → KeeperState) (old new : DeskState K)
     (bytes : List ℕ)
     (left : Option (List ℕ))
     → ServesOne state (Err (record { cause = cause.Write; requests = 2 })) old new (Some bytes) left (Some [])
     (Some []) → ⊥
 acting_on_after_a_write_fault_tells_no_exchanges state old new bytes left one =
-    by_list one.served.0 one.served.1.written one.served.1.counted one.served.1.adds one.served.1.tells
+    by_list one.served.exchanges one.served.written one.served.counted one.served.adds one.served.session.tells
   where
     by_list : (es : List Exchange) (written : List ℕ) → 2 ≡ length es → [] ≡ written
         → TellsExchanges (Stopped cause.Write new.failed left) bytes es written → ⊥
     by_list [] written counted adds tells = absurd (omega (arith, counted))
-    by_list (e ∷ es) written counted adds (rest, leads, inl (front, f, k, is, wrote)) = cut (e ∷ es) written new.failed counted adds front f k is wrote
-    by_list (e ∷ es) written counted adds (rest, leads, inr (end, closing, k, ends, wrote)) = some_text e es (take k closing) (sym (adds ∙ wrote))
+    by_list (e ∷ es) written counted adds (rest, leads, inl (front, f, k, is, wrote)) =
+        cut (e ∷ es) written new.failed counted adds front f k is wrote
+    by_list (e ∷ es) written counted adds (rest, leads, inr (end, closing, k, ends, wrote)) =
+        some_text e es (take k closing) (sym (adds ∙ wrote))
 
 -- ---- one request of a path that nobody has, over lists
 
-abbrev desk : Kept World
+abbrev desk : DeskState World
 desk = record { keeper = listed; failed = false }
 
 abbrev state : World → KeeperState
@@ -139,22 +145,19 @@ moves = record {
 }
 
 pub plain_tells : TellsExchanges (Ended Closed) plain_bytes (exchange ∷ []) sent
-plain_tells = ([], (shut true, (plain_asked, [], plain_opens, refl, (refl, refl)), refl), sym (append-nil sent))
+plain_tells = ([], (Shut true, (plain_asked, [], plain_opens, refl, (refl, refl)), refl), sym (append-nil sent))
 
 pub one_request_is_served : ServesOne state (Ok served_one) desk desk (Some plain_bytes) (Some []) (Some [])
     (Some sent)
 one_request_is_served = record {
   worked = record { moves = (exchange ∷ [], moves); counts = refl };
-  served = (
-    exchange ∷ [],
-    record {
-      moves = moves;
-      counted = refl;
-      written = sent;
-      adds = refl;
-      tells = plain_tells;
-    },
-  );
+  served = record {
+    exchanges = exchange ∷ [];
+    counted = refl;
+    written = sent;
+    adds = refl;
+    session = record { moves = moves; tells = plain_tells };
+  };
   taken = ([], refl, omega arith);
   stays = λ failed. absurd (cc);
   settles = refl;
@@ -185,13 +188,21 @@ no_more = []
 pub asks_plain : (e : Exchange) (written : List ℕ) → TellsExchanges (Ended Closed) plain_bytes (e ∷ []) written
     → (e.request ≡ request_of true plain_asked) × (written ≡ reply_text e.reply false true)
 asks_plain e written (closing, (rest, (a, after, opens, is, ends_so), ends), is_written) =
-    let front : whole a after ≡ whole plain_asked [] = Opens-unique plain_bytes (whole a after) (whole plain_asked []) opens plain_opens in
+    let front : Whole a after ≡ Whole plain_asked [] = Opens-unique plain_bytes (Whole a after) (Whole plain_asked []) opens plain_opens in
     let asks : a ≡ plain_asked = cc in
-    let wants : e.request ≡ request_of true plain_asked = is ∙ ap (λ (b : RequestContent). request_of (closes_at connection_limit b) b) asks in
-    let shuts : (no_more ≡ []) × (rest ≡ shut true) = subst (λ (b : RequestContent). MatchBool (closes_at connection_limit b) ((no_more ≡ []) × (rest ≡ shut b.close)) (Leads 255 after [] rest)) asks ends_so in
+    let wants : e.request ≡ request_of true plain_asked = is
+    ∙ ap (λ (b : RequestContent). request_of (closes_at connection_limit b) b) asks in
+    let shuts : (no_more ≡ []) × (rest ≡ Shut true) =
+    subst (λ (b : RequestContent). MatchBool (closes_at connection_limit b) ((no_more ≡ []) × (rest ≡ Shut b.close))
+    (Leads 255 after [] rest)) asks ends_so in
     let empty : closing ≡ [] = subst (λ (r : Rest). Ends r Closed closing) shuts.1 ends in
-    let all : written ≡ (reply_text e.reply e.request.head e.request.closes ++ []) ++ [] = is_written ∙ ap (λ c. text (e ∷ []) ++ c) empty in
-    (wants, all ∙ (append-nil (reply_text e.reply e.request.head e.request.closes ++ []) ∙ (append-nil (reply_text e.reply e.request.head e.request.closes) ∙ ap (λ (r : Request). reply_text e.reply r.head r.closes) wants)))
+    let all : written ≡ (reply_text e.reply e.request.head e.request.closes ++ []) ++ [] = is_written
+    ∙ ap (λ c. text (e ∷ []) ++ c) empty in (
+      wants,
+      all ∙ (append-nil (reply_text e.reply e.request.head e.request.closes ++ [])
+          ∙ (append-nil (reply_text e.reply e.request.head e.request.closes)
+          ∙ ap (λ (r : Request). reply_text e.reply r.head r.closes) wants)),
+    )
 
 told : (es : List Exchange) (written : List ℕ) → 1 ≡ length es → Moves (state listed) (state listed) es
     → TellsExchanges (Ended Closed) plain_bytes es written → Told written
@@ -205,7 +216,8 @@ told (e ∷ []) written counted moved tells =
 pub tells_once : (after : List ℕ)
     → ServesOne state (Ok served_one) desk desk (Some plain_bytes) (Some []) (Some []) (Some after) → Told after
 tells_once after one =
-    subst Told (sym one.served.1.adds) (told one.served.0 one.served.1.written one.served.1.counted one.served.1.moves one.served.1.tells)
+    subst Told (sym one.served.adds) (told one.served.exchanges one.served.written one.served.counted one.served.session.moves
+    one.served.session.tells)
 
 -- the first digit of the status
 pub not_found : get_or (reply_text no_route_reply false true) 9 0 ≡ 52
@@ -257,14 +269,14 @@ code_of_another_request_tells_no_exchange e written long tells =
 -- ---- limits, failures and their causes
 
 pub reading_without_an_end_takes_too_much : {K : Type 0} (state : K → KeeperState) (r : Result Served ServeFault)
-    (old new : Kept K)
+    (old new : DeskState K)
     (bytes : List ℕ) (before after : Option (List ℕ)) → taken_limit < length bytes
     → ServesOne state r old new (Some bytes) (Some []) before after → ⊥
 reading_without_an_end_takes_too_much state r old new bytes before after many one =
     let same : [] ≡ one.taken.0 = cc (one.taken.1) in
     omega (arith, many, one.taken.2, ap (λ (xs : List ℕ). length xs) same)
 
-pub failed_desk_that_goes_on_does_not_stay : {K : Type 0} (state : K → KeeperState) (k : K) (new : Kept K)
+pub failed_desk_that_goes_on_does_not_stay : {K : Type 0} (state : K → KeeperState) (k : K) (new : DeskState K)
     (source left before after : Option (List ℕ))
     → ServesOne state (Ok served_one) (record { keeper = k; failed = true }) new source left before after → ⊥
 failed_desk_that_goes_on_does_not_stay state k new source left before after one = omega (arith, (one.stays refl).1)
@@ -275,7 +287,7 @@ pub failure_under_ok_does_not_settle : {K : Type 0} (state : K → KeeperState) 
     source left before after → ⊥
 failure_under_ok_does_not_settle state served k l source left before after one = cc (one.settles)
 
-pub store_fault_of_a_desk_that_goes_on_does_not_settle : {K : Type 0} (state : K → KeeperState) (n : ℕ) (old : Kept K)
+pub store_fault_of_a_desk_that_goes_on_does_not_settle : {K : Type 0} (state : K → KeeperState) (n : ℕ) (old : DeskState K)
     (l : K)
     (source left before after : Option (List ℕ))
     → ServesOne state (Err (record { cause = cause.Store; requests = n })) old (record { keeper = l; failed = false })

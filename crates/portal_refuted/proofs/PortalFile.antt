@@ -13,17 +13,17 @@ use Rattle.portal_rules.specs.World.{World}
 use Rattle.portal_rules.specs.View.{office_sees}
 use Rattle.portal_wire.specs.Conversation.{Exchange, End}
 use Rattle.portal_wire.specs.declared.Ending.TheVariants as ending
-use Rattle.portal_desk.specs.Session.{Ended}
+use Rattle.portal_desk.specs.Session.{Ended, Stream}
 use Rattle.portal_desk.specs.declared.served.Served.{Served}
 use Rattle.portal_serve.specs.Hall.{office_report}
 use Rattle.portal_tables.specs.Tables.{IsCurrentSchema, IsFirstSchema, no_schema, portal_tree, version}
 use Rattle.portal_store.specs.Kept.{AreConsistent}
-use Rattle.portal_store.specs.Crash.{AreOpened, Passes, Refutes, ShowsVersion, first_queries}
+use Rattle.portal_store.specs.Crash.{AreOpened, Passes, IsTrueOfOpening, ShowsVersion, first_queries}
 use Rattle.portal_store.specs.declared.store.CreateFault.TheVariants as creating
 use Rattle.portal_store.specs.declared.store.OpenFault.{OpenFault}
 use Rattle.portal_store.specs.declared.store.OpenFault.TheVariants as opening
 use Rattle.portal_store.specs.declared.store.UpgradeFault.TheVariants as upgrading
-use Rattle.portal_file.specs.Tables.{Stands, StandsCurrent, StandsFirst, Stream, Work, Version, Current, opened_over}
+use Rattle.portal_file.specs.Tables.{Stands, StandsCurrent, StandsFirst, FileEffect, Version, Current, opened_over}
 use Rattle.sqlite_disk.specs.declared.Disk.{Ghosts}
 use Rattle.sqlite_disk.specs.declared.Files.{Files}
 use Rattle.sqlite_trees.specs.View.{IsClean}
@@ -34,20 +34,20 @@ use Rattle.portal_file.specs.Jobs.{Devices, MakesTables, OpensTables, PipesStrea
 use Rattle.portal_file.specs.Jobs.{ReportsWorld, ServesRequests, UpgradesTables}
 
 -- work that begins with this database, and leaves these trees
-abbrev pub over : Database → Trees → Work
+abbrev pub over : Database → Trees → FileEffect
 over db left = record {
   finds = λ version w. Stands version db w;
   is_new = ⊥;
   begins = λ Kind. Kind db;
   ends = λ Comes. Comes db left;
   leaves = λ version Kind. (w : World) × Kind w × (after : Database) × (after.trees ≡ left) × Stands version after w;
-  serves = λ es stream. Unit {0};
+  serves = λ visit. Unit {0};
 }
 
 -- ---- tables made
 
 -- work that leaves no world makes none
-pub tables_made_with_nothing_left_are_refuted : {A : Type 0} (office : Key) (x : A) (work : Work)
+pub tables_made_with_nothing_left_are_refuted : {A : Type 0} (office : Key) (x : A) (work : FileEffect)
     → ((version : Version) (P : World → Type 0) → work.leaves version P → ⊥) → MakesTables office (Ok x) work → ⊥
 tables_made_with_nothing_left_are_refuted office x work none makes = none Current _ makes.made.1
 
@@ -161,7 +161,7 @@ refused_tables_that_change_are_refuted fault db left changed opens = changed ope
 
 -- own tables of version 2 with no good world are `Damaged`, and stay
 pub damaged_tables_are_refused : {A : Type 0} (db : Database) → IsCurrentSchema db.schema → ShowsVersion version (opened_over db)
-    → Refutes opening.Damaged db.trees
+    → IsTrueOfOpening opening.Damaged db.trees
     → ((w : World) → StandsCurrent db w → ⊥) → OpensTables {A = A} (Err opening.Damaged) (over db db.trees)
 damaged_tables_are_refused db own shows refutes none = record {
   judged = record { explained = record { passes = inl own; shows = shows; passes_later = inl own }; refuted = λ _. refutes };
@@ -200,22 +200,23 @@ another_report_is_refuted text db left w stands other reports = other (reports.t
 -- ---- requests counted
 
 -- work that serves these requests of this stream, and no others
-abbrev pub streaming : List Exchange → Stream → Database → Work
+abbrev pub streaming : List Exchange → Stream → Database → FileEffect
 streaming es stream db = record {
   finds = λ version w. Stands version db w;
   is_new = ⊥;
   begins = λ Kind. Kind db;
   ends = λ Comes. Comes db db.trees;
   leaves = λ version P. ⊥;
-  serves = λ fs s. (fs ≡ es) × (s ≡ Some stream);
+  serves = λ v. (v.exchanges ≡ es) × (v.stream ≡ Some stream);
 }
 
 pub requests_counted_wrong_are_refuted : (es : List Exchange) (stream : Stream) (db : Database) (served : Served) (ends : Devices)
     → served.requests ≢ length es
     → PipesStream (Ok (Ok served)) ends (streaming es stream db) → ⊥
 requests_counted_wrong_are_refuted es stream db served ends wrong pipes =
-    let (fs, s, (same, known), reports) = pipes.serves in
-    let counted : served.requests ≡ length fs = subst (λ (o : Option Stream). IfSome o (λ _. served.requests ≡ length fs)) known reports.counted in
+    let (v, (same, known), reports) = pipes.serves in
+    let counted : served.requests ≡ length v.exchanges =
+    subst (λ (o : Option Stream). IfSome o (λ _. served.requests ≡ length v.exchanges)) known reports.counted in
     wrong (counted ∙ ap length same)
 
 abbrev nothing : Stream
@@ -229,7 +230,11 @@ pub no_request_counted_of_none_is_right : (db : Database) (w : World) → ShowsV
     → AreConsistent db.trees
     → PipesStream (Ok (Ok (record { requests = 0; ending = ending.End }))) still (streaming [] nothing db)
 no_request_counted_of_none_is_right db w shows stands consistent = record {
-  serves = ([], Some nothing, (refl, refl), record { known = known; counted = refl; ended = (false, refl) });
+  serves = (
+    record { exchanges = []; stream = Some nothing },
+    (refl, refl),
+    record { known = known; counted = refl; ended = (false, refl) },
+  );
   opens = record {
     judged = opened db w shows stands;
     stood = λ _. (w, stands);

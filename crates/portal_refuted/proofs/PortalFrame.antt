@@ -12,7 +12,7 @@ use Rattle.httparse.specs.Grammar.{is_value_byte, print_request, trim_ows}
 use Rattle.portal_frame.proofs.Unique.{Opens-unique}
 use Rattle.portal_frame.specs.declared.types.Frame.TheVariants as frame
 use Rattle.portal_frame.specs.Stream.{Item, Opens, RefusalContent, RequestContent, plain_refusal, Framed}
-use Rattle.portal_frame.specs.Stream.{WaitsForHead, asked_of, fault, item_of, over, refusal_of_fault, whole}
+use Rattle.portal_frame.specs.Stream.{WaitsForHead, asked_of, Faulty, item_of, Over, refusal_of_fault, Whole}
 use Rattle.portal_frame.specs.Stream.{is_overlong}
 
 -- a request of `/x` with this target and these header lines
@@ -52,7 +52,7 @@ plain_bytes = codes "GET /x HTTP/1.0\r\n\r\n"
 abbrev pub plain_asked : RequestContent
 plain_asked = asked_of plain []
 
-pub plain_opens : Opens plain_bytes (whole plain_asked [])
+pub plain_opens : Opens plain_bytes (Whole plain_asked [])
 unfolding print_request is_token_byte
 plain_opens = opens_with plain [] is_head (omega arith) (omega arith)
   where
@@ -67,7 +67,7 @@ plain_opens = opens_with plain [] is_head (omega arith) (omega arith)
 
 pub end_told_before_a_request_is_refuted : Framed plain_bytes true frame.End → ⊥
 end_told_before_a_request_is_refuted (ended, opens) =
-    let same = Opens-unique plain_bytes (whole plain_asked []) over plain_opens opens in cc
+    let same = Opens-unique plain_bytes (Whole plain_asked []) Over plain_opens opens in cc
 
 pub more_wanted_after_the_end_is_refuted : (bytes : List ℕ) → Framed bytes true frame.Need → ⊥
 more_wanted_after_the_end_is_refuted bytes (not_ended, waits) = cc
@@ -77,7 +77,7 @@ more_wanted_after_the_end_is_refuted bytes (not_ended, waits) = cc
 abbrev query : RequestHead
 query = head_of (codes "/x?y") 0 []
 
-query_opens : Opens (print_request query ++ []) (whole (asked_of query []) [])
+query_opens : Opens (print_request query ++ []) (Whole (asked_of query []) [])
 unfolding print_request is_token_byte
 query_opens = opens_with query [] is_head (omega arith) (omega arith)
   where
@@ -91,13 +91,14 @@ query_opens = opens_with query [] is_head (omega arith) (omega arith)
     }
 
 pub query_kept_in_the_path_is_refuted : (a : RequestContent) (after : List ℕ) → length a.path ≡ 4
-    → Opens (print_request query ++ []) (whole a after) → ⊥
+    → Opens (print_request query ++ []) (Whole a after) → ⊥
 query_kept_in_the_path_is_refuted a after long opens =
-    let same : whole a after ≡ whole (asked_of query []) [] = Opens-unique (print_request query ++ []) (whole a after) (whole (asked_of query []) []) opens query_opens in
+    let same : Whole a after ≡ Whole (asked_of query []) [] =
+    Opens-unique (print_request query ++ []) (Whole a after) (Whole (asked_of query []) []) opens query_opens in
     omega (arith, long, ap path_length same)
   where
     path_length : Item → ℕ
-    path_length (whole b rest) = length b.path
+    path_length (Whole b rest) = length b.path
     path_length item = 0
 
 pub query_is_cut_off : (asked_of query []).path ≡ codes "/x"
@@ -131,14 +132,14 @@ two_hosts_is_head = record {
 abbrev bad_host : RefusalContent
 bad_host = plain_refusal 400 (codes "bad_host")
 
-pub two_hosts_are_a_fault : Opens (print_request two_hosts ++ []) (fault bad_host false)
+pub two_hosts_are_a_fault : Opens (print_request two_hosts ++ []) (Faulty bad_host false)
 unfolding print_request refusal_of_fault
 two_hosts_are_a_fault = opens_with two_hosts [] two_hosts_is_head (omega arith) (omega arith)
 
 pub second_host_let_through_is_refuted : (a : RequestContent) (after : List ℕ)
-    → Opens (print_request two_hosts ++ []) (whole a after) → ⊥
+    → Opens (print_request two_hosts ++ []) (Whole a after) → ⊥
 second_host_let_through_is_refuted a after opens =
-    let same = Opens-unique (print_request two_hosts ++ []) (whole a after) (fault bad_host false) opens two_hosts_are_a_fault in cc
+    let same = Opens-unique (print_request two_hosts ++ []) (Whole a after) (Faulty bad_host false) opens two_hosts_are_a_fault in cc
 
 -- ---- a body
 
@@ -162,20 +163,24 @@ with_body_is_head = record {
   fields (suc k) d low = absurd (omega (arith, low))
 
 pub body_is_part_of_its_request : Opens (print_request with_body ++ codes "x")
-    (whole (asked_of with_body (codes "x")) [])
+    (Whole (asked_of with_body (codes "x")) [])
 unfolding print_request trim_ows
 body_is_part_of_its_request = opens_with with_body (codes "x") with_body_is_head (omega arith) (omega arith)
 
 left_after : Item → ℕ
-left_after (whole b rest) = length rest
+left_after (Whole b rest) = length rest
 left_after item = 0
 
 -- the body is left to be read as the next request
 pub body_read_as_the_next_request_is_refuted : (a : RequestContent)
-    → Opens (print_request with_body ++ codes "x") (whole a (codes "x")) → ⊥
+    → Opens (print_request with_body ++ codes "x") (Whole a (codes "x")) → ⊥
 unfolding left_after
 body_read_as_the_next_request_is_refuted a opens =
-    omega (arith, ap left_after (Opens-unique (print_request with_body ++ codes "x") (whole a (codes "x")) (whole (asked_of with_body (codes "x")) []) opens body_is_part_of_its_request))
+    omega (
+      arith,
+      ap left_after (Opens-unique (print_request with_body ++ codes "x") (Whole a (codes "x"))
+          (Whole (asked_of with_body (codes "x")) []) opens body_is_part_of_its_request),
+    )
 
 -- ---- 34 lines
 

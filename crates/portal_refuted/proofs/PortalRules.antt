@@ -10,7 +10,7 @@ use Rattle.portal_rules.specs.declared.keeper.KeepFault.TheVariants.{Memory, Sto
 use Rattle.portal_rules.specs.declared.view.View.{View as Sight}
 use Rattle.portal_rules.specs.declared.view.View.TheVariants.{Nobody, Office, Lecturer, Student}
 use Rattle.portal_rules.specs.Keeping.{Looks, Changes}
-use Rattle.portal_rules.specs.Sight.{LecturerSees}
+use Rattle.portal_rules.specs.Calls.{LecturerSees}
 use Rattle.portal_rules.specs.View.{view}
 use Rattle.portal_rules.specs.Words.{Key, is_code, is_name}
 use Rattle.portal_rules.specs.World.{World, Change, Choices, Students, changed, is_ranking}

@@ -14,7 +14,7 @@ use Rattle.portal_rules.specs.Answer.{Answer, answer, decision}
 use Rattle.portal_rules.specs.Good.{Good}
 use Rattle.portal_rules.specs.Heard.{Asked, Heard, HeardItem, IsMember, replies_to}
 use Rattle.portal_rules.specs.Run.{Request, Wish, Calls, NoCall, Step, StepLeaves, HasForm, AllAnswered, unavailable}
-use Rattle.portal_rules.specs.Sight.{AbstractCall, LecturerSees}
+use Rattle.portal_rules.specs.Calls.{AbstractCall, LecturerSees}
 use Rattle.portal_rules.specs.View.{Caller, OfficeCaller, LecturerCaller, StudentCaller, ShowsStill, caller}
 use Rattle.portal_rules.specs.View.{caller_among}
 use Rattle.portal_rules.specs.View.{lecturer_sees, persons, sight_of, student_sees, student_with, view}
@@ -91,7 +91,11 @@ at_second _ = 0
 
 pub applicants_while_choosing_are_seen : OthersUnseenOpen → ⊥
 applicants_while_choosing_are_seen unseen =
-    omega (arith, ap at_second (unseen again listed_again (codes "lee-code-01") (codes "ben-code-2") ben_lists _ again_good ben_steps tt refl refl))
+    omega (
+      arith,
+      ap at_second (unseen again listed_again (codes "lee-code-01")
+          (codes "ben-code-2") ben_lists _ again_good ben_steps tt refl refl),
+    )
 
 pub list_is_unseen_while_choosing : view listed_again (codes "lee-code-01") ≡ view again (codes "lee-code-01")
 list_is_unseen_while_choosing = refl
@@ -124,7 +128,8 @@ office_opens = record { form = tt; told = refl; left = refl }
 
 pub hidden_first_result_does_not_stay : HiddenResultsStay → ⊥
 hidden_first_result_does_not_stay stay =
-    let shown = (stay published again (codes "ann-code-1") (codes "office-code-0") opening _ published_good office_opens).1 (codes "K") refl in cc
+    let shown = (stay published again (codes "ann-code-1") (codes "office-code-0") opening _ published_good office_opens).1
+    (codes "K") refl in cc
 
 pub first_result_stays : ShowsStill (view published (codes "ann-code-1")) (view again (codes "ann-code-1"))
 first_result_stays = (refl, λ p at. at)
@@ -193,8 +198,11 @@ status_of_first (a ∷ answers) = a.status
 pub reply_that_tells_the_result_differs : SameRepliesTelling → ⊥
 unfolding status_of_first
 reply_that_tells_the_result_differs same =
-    let alike = same [] published empty (asks ∷ []) (asks ∷ []) (with_status 1 ∷ []) (with_status 0 ∷ []) (published ∷ []) (empty ∷ []) heard_by_nobody
-    (inl (record { form = tt; told = refl; left = refl }), tt) (answered 1 (omega arith)) (heard_by_nobody, [], ([], refl, refl), refl, refl)
-    (inl (record { form = tt; told = refl; left = refl }), tt) (answered 0 (omega arith)) (heard_by_nobody, [], ([], refl, refl), refl, refl)
+    let alike = same [] published empty (asks ∷ []) (asks ∷ []) (with_status 1 ∷ []) (with_status 0 ∷ []) (published ∷ [])
+    (empty ∷ []) heard_by_nobody
+    (inl (record { form = tt; told = refl; left = refl }), tt) (answered 1 (omega arith))
+    (heard_by_nobody, [], ([], refl, refl), refl, refl)
+    (inl (record { form = tt; told = refl; left = refl }), tt) (answered 0 (omega arith))
+    (heard_by_nobody, [], ([], refl, refl), refl, refl)
     refl in
     omega (arith, ap status_of_first alike)

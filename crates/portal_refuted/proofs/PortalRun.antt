@@ -16,6 +16,7 @@ use Rattle.portal_rules.specs.View.{office_sees}
 use Rattle.portal_rules.specs.declared.keeper.KeepFault.{KeepFault}
 use Rattle.portal_wire.specs.Conversation.{Exchange}
 use Rattle.portal_answer.specs.Answer.{Text, Output}
+use Rattle.portal_desk.specs.Session.{Stream}
 use Rattle.portal_desk.specs.declared.served.Cause.{Cause}
 use Rattle.portal_desk.specs.declared.served.Cause.TheVariants as cause
 use Rattle.portal_desk.specs.declared.served.Served.{Served}
@@ -31,7 +32,7 @@ use Rattle.portal_store.specs.declared.store.OpenFault.{OpenFault}
 use Rattle.portal_store.specs.declared.store.CreateFault.{CreateFault}
 use Rattle.portal_store.specs.declared.store.UpgradeFault.{UpgradeFault}
 use Rattle.portal_store.specs.declared.store.UpgradeFault.TheVariants as upgrading
-use Rattle.portal_file.specs.Tables.{Stands, StandsCurrent, Stream, Work, opened_over}
+use Rattle.portal_file.specs.Tables.{StandsCurrent, FileEffect, opened_over}
 use Rattle.portal_file.specs.Jobs.{Devices, MakesTables, PipesStream, ReportsWorld, UpgradesTables}
 use Rattle.portal_run.specs.declared.place.Place.TheVariants.{Database as IsDatabase}
 use Rattle.portal_run.specs.Lines.{Says, bad_code, fault, hall_line, listening_line, refusal, success}
@@ -43,7 +44,7 @@ use Rattle.portal_refuted.proofs.PortalFile.{streaming}
 use Rattle.portal_refuted.proofs.PortalFile.{refused_tables_that_change_are_refuted, tables_without_version_2_are_not_opened}
 
 -- databases over each of which only this work was done
-abbrev only : Work → Known
+abbrev only : FileEffect → Known
 only work = record { stands = λ path place. Unit {0}; over = λ path Does. Does work }
 
 -- ---- a status of success
@@ -70,42 +71,45 @@ no_refusal : (why : UpgradeFault) (old new : Option Text) → Says (refusal why)
 no_refusal why old new = not_zero (refusal why) old new (refusal_status why)
 
 -- after work that upgraded nothing, whatever is printed: `upgraded`, or the refusal's own line
-pub success_of_a_refused_upgrade_is_refuted : (work : Work) (path : Text) (old new : Option Text)
+pub success_of_a_refused_upgrade_is_refuted : (work : FileEffect) (path : Text) (old new : Option Text)
     → ((x : Unit {0}) → UpgradesTables (Ok x) work → ⊥) → Performs (only work) path (to_upgrade {A = Unit {0}} old) 0 old new → ⊥
 success_of_a_refused_upgrade_is_refuted work path old new none (inl stopped) = no_refusal stopped.0 old new stopped.2
 success_of_a_refused_upgrade_is_refuted work path old new none (inr works) = of works.result works.did works.says
   where
-    of : (r : Result (Unit {0}) UpgradeFault) → UpgradesTables r work → Says (said_of (λ _. success (codes "upgraded\n")) (λ why. why) r) 0 old new → ⊥
+    of : (r : Result (Unit {0}) UpgradeFault) → UpgradesTables r work
+        → Says (said_of (λ _. success (codes "upgraded\n")) (λ why. why) r) 0 old new → ⊥
     of (Ok x) did says = none x did
     of (Err why) did says = no_refusal why old new says
 
 -- after work that upgraded the tables
-pub success_of_an_upgrade_is_right : (work : Work) (path : Text) → UpgradesTables {A = Unit {0}} (Ok tt) work
+pub success_of_an_upgrade_is_right : (work : FileEffect) (path : Text) → UpgradesTables {A = Unit {0}} (Ok tt) work
     → Performs (only work) path (to_upgrade {A = Unit {0}} (Some [])) 0 (Some []) (Some (codes "upgraded\n"))
 success_of_an_upgrade_is_right work path did =
     inr (record { place = IsDatabase; stands = tt; taken = refl; result = Ok tt; did = did; says = inl (refl, refl) })
 
 -- `made` of a database that has a table
-pub success_after_exists_is_refuted : (office : Key) (path : Text) (db : Database) (left : Trees) (old new : Option Text) → db.schema ≢ no_schema
+pub success_after_exists_is_refuted : (office : Key) (path : Text) (db : Database) (left : Trees) (old new : Option Text)
+    → db.schema ≢ no_schema
     → Performs (only (over db left)) path (making {A = Unit {0}} office old) 0 old new → ⊥
 success_after_exists_is_refuted office path db left old new some (inl stopped) = no_refusal stopped.0 old new stopped.2
 success_after_exists_is_refuted office path db left old new some (inr works) = of works.result works.did works.says
   where
-    of : (r : Result (Unit {0}) CreateFault) → MakesTables office r (over db left) → Says (said_of (λ _. success (codes "made\n")) create_refusal r) 0 old new → ⊥
+    of : (r : Result (Unit {0}) CreateFault) → MakesTables office r (over db left)
+        → Says (said_of (λ _. success (codes "made\n")) create_refusal r) 0 old new → ⊥
     of (Ok x) did says = made_of_a_database_with_a_table_is_refuted office x db left some did
     of (Err why) did says = no_refusal (create_refusal why) old new says
 
 -- ---- the office's code
 
 -- work that leaves the empty world with this code
-abbrev made_with : Key → Work
+abbrev made_with : Key → FileEffect
 made_with office = record {
   finds = λ version w. ⊥;
   is_new = Unit {0};
   begins = λ Kind. Unit {0};
   ends = λ Comes. Unit {0};
   leaves = λ version Kind. Kind (first_world office);
-  serves = λ es stream. Unit {0};
+  serves = λ visit. Unit {0};
 }
 
 -- the tables are made with another code than the first line of the input
@@ -114,12 +118,15 @@ pub another_code_made_is_refuted : (input : Text) (other : Key) (path : Text) (o
 another_code_made_is_refuted input other path old new differs (inl (office, is, inl stopped)) = no_refusal stopped.0 old new stopped.2
 another_code_made_is_refuted input other path old new differs (inl (office, is, inr works)) = of works.result works.did works.says
   where
-    of : (r : Result (Unit {0}) CreateFault) → MakesTables office r (made_with other) → Says (said_of (λ _. success (codes "made\n")) create_refusal r) 0 old new → ⊥
+    of : (r : Result (Unit {0}) CreateFault) → MakesTables office r (made_with other)
+        → Says (said_of (λ _. success (codes "made\n")) create_refusal r) 0 old new → ⊥
     of (Ok x) did says = differs (ap (λ (w : World). w.office) did.made.1 ∙ is)
     of (Err why) did says = no_refusal (create_refusal why) old new says
 another_code_made_is_refuted input other path old new differs (inr (inl bad)) = not_zero bad_code old new (omega arith) bad.1
-another_code_made_is_refuted input other path old new differs (inr (inr (inl says))) = not_zero (fault cause.Read) old new (omega arith) says
-another_code_made_is_refuted input other path old new differs (inr (inr (inr says))) = not_zero (fault cause.Memory) old new (omega arith) says
+another_code_made_is_refuted input other path old new differs (inr (inr (inl says))) =
+    not_zero (fault cause.Read) old new (omega arith) says
+another_code_made_is_refuted input other path old new differs (inr (inr (inr says))) =
+    not_zero (fault cause.Memory) old new (omega arith) says
 
 -- the first line is what stands before the line feed, without a carriage return
 pub first_line_is_the_code : first_line (codes "office-1\r\nrest\n") ≡ codes "office-1"
@@ -156,7 +163,8 @@ fault_of_memory_told_of_the_store_is_refuted (inl h) =
     let e : 2 ≡ 0 = ap (count_by (λ b. b == 109)) h.1 in omega (arith, e)
 fault_of_memory_told_of_the_store_is_refuted (inr f) =
     let m : ℕ → ℕ = λ b. cond (b == 109) 1 0 in
-    let e : 2 ≡ count_by (λ b. b == 109) (take f.front (codes "fault store\n") ++ take f.fault (codes "fault write\n")) = ap (count_by (λ b. b == 109)) f.written in
+    let e : 2 ≡ count_by (λ b. b == 109) (take f.front (codes "fault store\n") ++ take f.fault (codes "fault write\n")) =
+    ap (count_by (λ b. b == 109)) f.written in
     let both = sum_by-append m (take f.front (codes "fault store\n")) (take f.fault (codes "fault write\n")) in
     let store : count_by (λ b. b == 109) (take f.front (codes "fault store\n")) ≤ 0 = sum_by-take-le m (codes "fault store\n") f.front in
     let write : count_by (λ b. b == 109) (take f.fault (codes "fault write\n")) ≤ 0 = sum_by-take-le m (codes "fault write\n") f.fault in
@@ -198,7 +206,7 @@ line_after_the_replies_is_refuted es stream db path bytes more some (inr works) 
         → PipesStream r (record (ends_of bytes (stream.written ++ more)) { after = Some held }) (streaming es stream db)
         → Says (said_of stream_said as_upgrading r) 0 (after (Some []) r (Some held)) (Some (stream.written ++ more)) → ⊥
     of (Ok (Ok served)) held did (inl says) =
-        let (fs, s, (same, known), reports) = did.serves in
+        let (v, (same, known), reports) = did.serves in
         let told = reports.known bytes [] held refl refl refl in
         let is : IsSomeAnd (Some stream) (λ t. (t.bytes ≡ bytes) × (held ≡ [] ++ t.written)) =
         subst (λ (o : Option Stream). IsSomeAnd o (λ t. (t.bytes ≡ bytes) × (held ≡ [] ++ t.written))) known told in
@@ -211,17 +219,21 @@ line_after_the_replies_is_refuted es stream db path bytes more some (inr works) 
 -- ---- connections served
 
 -- another last line than that of a hall which counts as many connections as were asked for
-pub another_last_line_is_refuted : (work : Work) (path line : Text) (port most : ℕ) → ((hall : Hall) → hall.accepted ≡ most → line ≢ hall_line hall)
+pub another_last_line_is_refuted : (work : FileEffect) (path line : Text) (port most : ℕ)
+    → ((hall : Hall) → hall.accepted ≡ most → line ≢ hall_line hall)
     → Performs (only work) path (serving port most (Some [])) 0 (Some []) (Some (listening_line port ++ line)) → ⊥
 another_last_line_is_refuted work path line port most none (inl stopped) = no_refusal stopped.0 _ _ stopped.2
 another_last_line_is_refuted work path line port most none (inr works) =
     of works.result.opened works.result.held works.result.ended works.result.listens works.says
   where
-    full : (ended : Ended) (hall counted : Hall) (held : Text) → hall.ended ≡ ended → hall ≡ counted → CountsUpTo most counted → held ≡ listening_line port
+    full : (ended : Ended) (hall counted : Hall) (held : Text) → hall.ended ≡ ended → hall ≡ counted → CountsUpTo most counted
+        → held ≡ listening_line port
         → Says (hall_said ended (hall_line hall)) 0 (Some held) (Some (listening_line port ++ line)) → ⊥
     full Full hall counted held is same counts begun (inl says) =
-        let most_is : hall.accepted ≡ most = ap (λ (h : Hall). h.accepted) same ∙ counts.full (sym (ap (λ (h : Hall). h.ended) same) ∙ is) in
-        none hall most_is (append_cancel_left (listening_line port) line (hall_line hall) (says.1 ∙ ap (λ (l : Text). l ++ hall_line hall) begun))
+        let most_is : hall.accepted ≡ most = ap (λ (h : Hall). h.accepted) same
+        ∙ counts.full (sym (ap (λ (h : Hall). h.ended) same) ∙ is) in
+        none hall most_is (append_cancel_left (listening_line port) line (hall_line hall)
+        (says.1 ∙ ap (λ (l : Text). l ++ hall_line hall) begun))
     full Full hall counted held is same counts begun (inr f) = absurd (omega (arith, f.status_is))
     full StoreFault hall counted held is same counts begun says = not_zero (fault cause.Store) _ _ (omega arith) says
     full ListenFault hall counted held is same counts begun says = not_zero (fault cause.Read) _ _ (omega arith) says
@@ -233,7 +245,8 @@ another_last_line_is_refuted work path line port most none (inr works) =
     heard None (Ok hall) (inl h) says = absurd h.0
     heard (Some held) (Ok hall) (inl h) says = full hall.ended hall h.1 held refl h.3 h.2 h.0 says
 
-    of : (opened : Result (Unit {0}) OpenFault) (held : Option Text) (ended : Result Hall Cause) → OnOk opened (Listens port most (Some []) held ended)
+    of : (opened : Result (Unit {0}) OpenFault) (held : Option Text) (ended : Result Hall Cause)
+        → OnOk opened (Listens port most (Some []) held ended)
         → Says (said_of (λ _. end_said ended) as_upgrading opened) 0 (after (Some []) opened held) (Some (listening_line port ++ line)) → ⊥
     of (Ok x) held ended listens says = heard held ended listens says
     of (Err found) held ended listens says = no_refusal (as_upgrading found) _ _ says

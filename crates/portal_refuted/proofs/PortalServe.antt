@@ -11,13 +11,13 @@ use Rattle.portal_rules.specs.Keeping.{KeeperState}
 use Rattle.portal_rules.specs.World.{World}
 use Rattle.portal_rules.specs.examples.Worked.{listed}
 use Rattle.portal_frame.proofs.Unique.{Opens-unique}
-use Rattle.portal_frame.specs.Stream.{Opens, over, whole}
-use Rattle.portal_wire.specs.Conversation.{Exchange, common_lines, last, more, reply_text}
+use Rattle.portal_frame.specs.Stream.{Opens, Over, Whole}
+use Rattle.portal_wire.specs.Conversation.{Exchange, common_lines, last, More, reply_text}
 use Rattle.portal_wire.specs.declared.Ending.{Ending}
 use Rattle.portal_desk.specs.declared.served.Cause.TheVariants as cause
 use Rattle.portal_desk.specs.declared.served.ServeFault.{ServeFault}
 use Rattle.portal_desk.specs.declared.served.Served.{Served}
-use Rattle.portal_desk.specs.Kept.{Kept, taken_limit}
+use Rattle.portal_desk.specs.Kept.{DeskState, taken_limit}
 use Rattle.portal_desk.specs.Session.{Ended, ServesOne, Stopped, TellsExchanges}
 use Rattle.portal_serve.specs.declared.server.Ended.TheVariants.{Full}
 use Rattle.portal_serve.specs.declared.server.Hall.{Hall}
@@ -35,7 +35,7 @@ use Rattle.portal_refuted.proofs.PortalFrame.{plain_asked, plain_bytes, plain_op
 abbrev state : World → KeeperState
 state w = lists w 0
 
-abbrev desk : Kept World
+abbrev desk : DeskState World
 desk = record { keeper = listed; failed = false }
 
 -- the stream of one request, served with this text
@@ -79,24 +79,24 @@ bytes_after_the_end_are_refuted left x xs stream = go (tells_once (sent ++ x ∷
     ]
 
 -- requests are counted of a stream that ends without one
-pub request_that_nobody_sent_is_refuted : {K : Type 0} (state : K → KeeperState) (old new : Kept K) (bytes : List ℕ) (n : ℕ)
+pub request_that_nobody_sent_is_refuted : {K : Type 0} (state : K → KeeperState) (old new : DeskState K) (bytes : List ℕ) (n : ℕ)
     (end : Ending) (left before after : Option (List ℕ))
-    → Opens bytes over
+    → Opens bytes Over
     → ServesStream state (Ok (record { requests = n + 1; ending = end })) old new (Some bytes) left before after → ⊥
 request_that_nobody_sent_is_refuted state old new bytes n end left before after none stream =
-    let one = stream.serves.served in go one.0 one.1.written one.1.counted one.1.tells
+    let one = stream.serves.served in go one.exchanges one.written one.counted one.session.tells
   where
     go : (es : List Exchange) (written : List ℕ) → n + 1 ≡ length es → TellsExchanges (Ended (last end)) bytes es written → ⊥
     go [] written counted tells = absurd (omega (arith, counted))
     go (e ∷ es) written counted (closing, (rest, (a, next, opens, is, goes), ends), text) =
-        let same = Opens-unique bytes (whole a next) over opens none in cc
+        let same = Opens-unique bytes (Whole a next) Over opens none in cc
 
 at_most : (b : Bool) → (if b then 0 else dropped_limit) ≤ dropped_limit
 at_most true = omega arith
 at_most false = omega arith
 
 pub dropping_without_an_end_is_refuted : {K : Type 0} (state : K → KeeperState) (r : Result Served ServeFault)
-    (old new : Kept K)
+    (old new : DeskState K)
     (bytes : List ℕ) (before after : Option (List ℕ)) → taken_limit + dropped_limit < length bytes
     → ServesStream state r old new (Some bytes) (Some []) before after → ⊥
 dropping_without_an_end_is_refuted state r old new bytes before after many stream =
@@ -106,11 +106,11 @@ dropping_without_an_end_is_refuted state r old new bytes before after many strea
     omega (arith, many, taken.2, ap (λ (l : List ℕ). length l) drops.1, length-append {A = ℕ} drops.0 [], drops.2, at_most (is_own_fault r))
 
 -- a read failed, and a request that is still unread is dropped
-pub request_dropped_after_a_fault_is_refuted : {K : Type 0} (state : K → KeeperState) (old new : Kept K)
+pub request_dropped_after_a_fault_is_refuted : {K : Type 0} (state : K → KeeperState) (old new : DeskState K)
     (before after : Option (List ℕ))
     → ServesStream state (Err (record { cause = cause.Read; requests = 0 })) old new (Some plain_bytes) (Some []) before after → ⊥
 request_dropped_after_a_fault_is_refuted state old new before after stream =
-    let one = stream.serves.served in go one.0 one.1.written one.1.counted one.1.tells
+    let one = stream.serves.served in go one.exchanges one.written one.counted one.session.tells
   where
     go : (es : List Exchange) (written : List ℕ) → 0 ≡ length es
         → TellsExchanges (Stopped cause.Read new.failed stream.unread) plain_bytes es written → ⊥
@@ -118,10 +118,10 @@ request_dropped_after_a_fault_is_refuted state old new before after stream =
     go [] written counted (rest, leads, ((held, unread, is, left, none), wrote)) =
         let drops : Drops 0 (Some unread) (Some []) = subst (λ (u : Option (List ℕ)). Drops 0 u (Some [])) left stream.drops in
         let nothing : unread ≡ [] = drops.1 ∙ (append-nil drops.0 ∙ empty drops.0 drops.2) in
-        let all : more (held ++ unread) ≡ more plain_bytes = sym is ∙ leads in
+        let all : More (held ++ unread) ≡ More plain_bytes = sym is ∙ leads in
         let same : held ++ unread ≡ plain_bytes = cc in
         let whole_held : held ≡ plain_bytes = sym (append-nil held) ∙ (ap (λ l. held ++ l) (sym nothing) ∙ same) in
-        none plain_asked [] (subst (λ (b : List ℕ). Opens b (whole plain_asked [])) (sym whole_held) plain_opens)
+        none plain_asked [] (subst (λ (b : List ℕ). Opens b (Whole plain_asked [])) (sym whole_held) plain_opens)
       where
         empty : (l : List ℕ) → length l ≤ 0 → l ≡ []
         empty [] short = refl
@@ -133,7 +133,7 @@ one_stream_is_served = record { unread = Some []; serves = one_request_is_served
 -- ---- connections in turn
 
 -- what the server loop tells of a series
-abbrev pub TellsHall : {K : Type 0} → (K → KeeperState) → Hall → Kept K → Kept K → Series → Series → Type 0
+abbrev pub TellsHall : {K : Type 0} → (K → KeeperState) → Hall → DeskState K → DeskState K → Series → Series → Type 0
 TellsHall state hall old new before after =
     (outcomes : List Outcome) × ServesInTurn state old new (Some before) (Some after) outcomes × CountsOutcomes hall outcomes
 
@@ -144,7 +144,7 @@ served_of (Some series) = series.served
 abbrev outcome_of : Connection → Outcome
 outcome_of c = c.outcome
 
-pub caller_counted_and_not_served_is_refuted : {K : Type 0} (state : K → KeeperState) (hall : Hall) (old new : Kept K)
+pub caller_counted_and_not_served_is_refuted : {K : Type 0} (state : K → KeeperState) (hall : Hall) (old new : DeskState K)
     (waiting rest : List (Option (List ℕ)))
     → hall.accepted ≡ 1
     → TellsHall state hall old new (record { served = []; waiting = waiting }) (record { served = []; waiting = rest }) → ⊥
@@ -158,7 +158,7 @@ caller_counted_and_not_served_is_refuted state hall old new waiting rest one (ou
     go (c ∷ cs) (left, is, are) told = omega (arith, ap (λ (s : Option Series). length (served_of s)) are)
 
 -- the first of two callers is served in the place of the second
-pub caller_served_twice_is_refuted : {K : Type 0} (state : K → KeeperState) (hall : Hall) (old new : Kept K) (a b : List ℕ)
+pub caller_served_twice_is_refuted : {K : Type 0} (state : K → KeeperState) (hall : Hall) (old new : DeskState K) (a b : List ℕ)
     (c d : Connection) (waiting : List (Option (List ℕ)))
     → a ≢ b → d.source ≡ Some a
     → TellsHall state hall old new (record { served = []; waiting = Some a ∷ Some b ∷ [] })
@@ -172,7 +172,7 @@ caller_served_twice_is_refuted state hall old new a b c d waiting other is (outc
     other (cc)
 
 -- the second of two callers is served, and the first is not
-pub caller_passed_over_is_refuted : {K : Type 0} (state : K → KeeperState) (hall : Hall) (old new : Kept K) (a b : List ℕ)
+pub caller_passed_over_is_refuted : {K : Type 0} (state : K → KeeperState) (hall : Hall) (old new : DeskState K) (a b : List ℕ)
     (d : Connection) (waiting : List (Option (List ℕ)))
     → a ≢ b → d.source ≡ Some b
     → TellsHall state hall old new (record { served = []; waiting = Some a ∷ Some b ∷ [] }) (record { served = d ∷ []; waiting = waiting })
@@ -184,7 +184,7 @@ caller_passed_over_is_refuted state hall old new a b d waiting other is (outcome
     passes.1 ∙ ap (λ (cs : List Connection). map (λ c. c.source) cs ++ passes.0) (sym are) in
     other (cc)
 
-pub desk_that_changes_for_nobody_is_refuted : {K : Type 0} (state : K → KeeperState) (old new : Kept K) (before after : Option Series)
+pub desk_that_changes_for_nobody_is_refuted : {K : Type 0} (state : K → KeeperState) (old new : DeskState K) (before after : Option Series)
     → new ≢ old → ServesInTurn state old new before after [] → ⊥
 desk_that_changes_for_nobody_is_refuted state old new before after changed turns = changed (turns_nobody state old new before after turns)
 

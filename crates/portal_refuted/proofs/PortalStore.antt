@@ -30,10 +30,10 @@ use Rattle.portal_tables.specs.declared.select.Query.TheVariants.{Whole}
 use Rattle.portal_tables.specs.declared.select.RollTable.TheVariants.{Students}
 use Rattle.portal_store.specs.Calls.{ChangesTables, CreatesStore, OpensStore, RefusesToCreate, RefusesToOpen}
 use Rattle.portal_store.specs.Calls.{RefusesToUpgrade, StaysStore, UpgradesStore}
-use Rattle.portal_store.specs.Crash.{HasVersion, IsAnswered, IsLeft, IsRejected, Passes, RefusesOne, Refutes}
-use Rattle.portal_store.specs.Crash.{Explains, ShowsOffice, ShowsVersion, first_queries, later_queries}
+use Rattle.portal_store.specs.Crash.{HasVersion, IsAnswered, IsLeft, IsRejected, Passes, RefusesOne, IsTrueOfOpening}
+use Rattle.portal_store.specs.Crash.{IsTrueOfQueries, ShowsOffice, ShowsVersion, first_queries, later_queries}
 use Rattle.portal_store.proofs.Calls.{untouched}
-use Rattle.portal_store.specs.Kept.{HasChanged, HasDisk, HasGoodFirst, HasGoodWorld, IsCleanStore, Seen, kept_world}
+use Rattle.portal_store.specs.Kept.{HasChanged, HasDisk, HasGoodFirst, HasGoodWorld, IsCleanStore, StoreState, kept_world}
 use Rattle.portal_store.specs.World.{first_world, world_in, world_of}
 use Rattle.portal_store.specs.declared.store.CreateFault.TheVariants as creating
 use Rattle.portal_store.specs.declared.store.OpenFault.{OpenFault}
@@ -136,36 +136,43 @@ rejected s on lacks =
 module _ {S : Type 0} (g : Ghosts S) where
   -- ---- what is opened
 
-  pub opened_tables_without_a_row_do_not_stand : (old : Held S) (s : Seen S) → IsCurrentSchema old.schema
+  pub opened_tables_without_a_row_do_not_stand : (old : Held S) (s : StoreState S) → IsCurrentSchema old.schema
       → HasDisk g s
       → (state g old).now.trees ≡ nothing → OpensStore g old s → ⊥
-  opened_tables_without_a_row_do_not_stand old s current disk is opens = no_rows_stand (subst HasGoodWorld is ((opens.judged disk).good current))
+  opened_tables_without_a_row_do_not_stand old s current disk is opens =
+      no_rows_stand (subst HasGoodWorld is ((opens.judged disk).good current))
 
-  pub any_six_tables_do_not_stand : (old : Held S) (s : Seen S) → IsCurrentSchema old.schema → HasDisk g s
+  pub any_six_tables_do_not_stand : (old : Held S) (s : StoreState S) → IsCurrentSchema old.schema → HasDisk g s
       → (state g old).now.trees ≡ bad → OpensStore g old s → ⊥
   any_six_tables_do_not_stand old s current disk is opens = bad_rows_stand (subst HasGoodWorld is ((opens.judged disk).good current))
 
-  pub version_1_opened_has_another_version : (old : Held S) (s : Seen S) → HasFirstSchema old.schema → HasDisk g s
+  pub version_1_opened_has_another_version : (old : Held S) (s : StoreState S) → HasFirstSchema old.schema → HasDisk g s
       → (state g old).now.trees ≡ first → OpensStore g old s → ⊥
   version_1_opened_has_another_version old s six disk is opens =
-      omega (arith, ap number_in ((subst (HasVersion version) is ((opens.judged disk).version_is six)).version_is (portal_row (pos 1) (pos 0) office) refl))
+      omega (
+        arith,
+        ap number_in ((subst (HasVersion version) is ((opens.judged disk).version_is six)).version_is
+            (portal_row (pos 1) (pos 0) office) refl),
+      )
 
   -- other tables of which one is missing, so that its query is refused
-  pub tables_with_a_refused_query_are_not_opened : (old : Held S) (s : Seen S) → (IsCurrentSchema old.schema → ⊥)
+  pub tables_with_a_refused_query_are_not_opened : (old : Held S) (s : StoreState S) → (IsCurrentSchema old.schema → ⊥)
       → LacksStudents (state g old) → HasDisk g s → OpensStore g old s → ⊥
-  tables_with_a_refused_query_are_not_opened old s other lacks disk opens = passes_none (state g old) _ other lacks (opens.judged disk).suits.passes
+  tables_with_a_refused_query_are_not_opened old s other lacks disk opens =
+      passes_none (state g old) _ other lacks (opens.judged disk).suits.passes
 
-  pub opened_store_without_a_row_is_not_consistent : (old : Held S) (s : Seen S) → IsCleanStore g s
+  pub opened_store_without_a_row_is_not_consistent : (old : Held S) (s : StoreState S) → IsCleanStore g s
       → (state g s.conn).now.trees ≡ nothing → OpensStore g old s → ⊥
   opened_store_without_a_row_is_not_consistent old s on is opens =
       omega (arith, ap offices is, ap (λ (rows : List Row). length rows) (opens.makes.consistent on).1.office.is)
 
-  pub opened_store_that_is_not_own_is_refuted : (old : Held S) (s : Seen S) → IsCurrentSchema old.schema
+  pub opened_store_that_is_not_own_is_refuted : (old : Held S) (s : StoreState S) → IsCurrentSchema old.schema
       → s.own ≡ false
       → OpensStore g old s → ⊥
-  opened_store_that_is_not_own_is_refuted old s current not_own opens = let clash : false ≡ true = sym not_own ∙ opens.makes.own.1 current in cc
+  opened_store_that_is_not_own_is_refuted old s current not_own opens = let clash : false ≡ true = sym not_own
+      ∙ opens.makes.own.1 current in cc
 
-  pub opened_store_with_a_fault_is_not_counted : (old : Held S) (s : Seen S) → s.faults ≡ 1 → OpensStore g old s → ⊥
+  pub opened_store_with_a_fault_is_not_counted : (old : Held S) (s : StoreState S) → s.faults ≡ 1 → OpensStore g old s → ⊥
   opened_store_with_a_fault_is_not_counted old s one opens = omega (arith, one, opens.makes.counted)
 
   -- ---- what is not opened
@@ -186,11 +193,13 @@ module _ {S : Type 0} (g : Ghosts S) where
       → HasCleanDisk (state g new)
       → (state g old).now.trees ≡ fresh → RefusesToOpen g opening.OtherVersion old new → ⊥
   other_version_told_of_this_one_is_refuted old new current clean is refuses =
-      (subst (Refutes opening.OtherVersion) is ((refuses.judged clean).refuted current)).other (portal_row (pos 2) (pos 0) office) refl refl
+      (subst (IsTrueOfOpening opening.OtherVersion) is ((refuses.judged clean).refuted current)).other
+      (portal_row (pos 2) (pos 0) office) refl refl
 
   pub other_version_told_of_a_missing_table_is_refuted : (old new : Held S) → (IsCurrentSchema old.schema → ⊥)
       → LacksStudents (state g old) → HasCleanDisk (state g new) → RefusesToOpen g opening.OtherVersion old new → ⊥
-  other_version_told_of_a_missing_table_is_refuted old new other lacks clean refuses = passes_none (state g old) _ other lacks (refuses.judged clean).explained.0
+  other_version_told_of_a_missing_table_is_refuted old new other lacks clean refuses =
+      passes_none (state g old) _ other lacks (refuses.judged clean).explained.0
 
   pub damage_told_of_a_missing_table_is_refuted : (old new : Held S) → (IsCurrentSchema old.schema → ⊥)
       → LacksStudents (state g old) → HasCleanDisk (state g new) → RefusesToOpen g opening.Damaged old new → ⊥
@@ -223,7 +232,7 @@ module _ {S : Type 0} (g : Ghosts S) where
           let first : column h.row 1 ≡ column row 1 = ap (λ (rows : List Row). column (slice_index_or rows 0 []) 1) same in
           omega (arith, ap number_in (sym h.version_is ∙ first ∙ one))
 
-      told : (fault : OpenFault) → Explains fault (IsCurrentSchema old.schema) version later_queries s
+      told : (fault : OpenFault) → IsTrueOfQueries fault (IsCurrentSchema old.schema) version later_queries s
           → (fault ≡ opening.OtherVersion) ⊎ ((fault ≡ opening.Store) ⊎ (fault ≡ opening.Memory))
       told opening.NotPortal (inl refused) = absurd (none refused)
       told opening.NotPortal (inr (passes, inl empty)) = let e : [] ≡ row ∷ rest = alone [] empty in absurd (cc)
@@ -264,12 +273,12 @@ module _ {S : Type 0} (g : Ghosts S) where
   exists_told_of_an_empty_file_is_refuted old new none refuses =
       let clash : IsTrue false = subst (λ s. IsTrue (has_names All s)) none (refuses.exists.1 refl) in cc
 
-  pub created_world_in_ranking_is_not_the_first : (old : Held S) (s : Seen S) → IsCleanStore g s
+  pub created_world_in_ranking_is_not_the_first : (old : Held S) (s : StoreState S) → IsCleanStore g s
       → kept_world g s ≡ record (first_world office) { phase = Ranking } → CreatesStore g office old s → ⊥
   created_world_in_ranking_is_not_the_first old s clean is creates =
       let clash : true ≡ false = ap (λ (w : World). is_setup w.phase) (sym (creates.world clean) ∙ is) in cc
 
-  pub created_tables_that_are_left_out_are_not_committed : (old : Held S) (s : Seen S) → old.schema ≡ no_schema
+  pub created_tables_that_are_left_out_are_not_committed : (old : Held S) (s : StoreState S) → old.schema ≡ no_schema
       → HasDisk g s
       → (state g s.conn).now.trees ≡ nothing → CreatesStore g office old s → ⊥
   created_tables_that_are_left_out_are_not_committed old s none disk is creates =
@@ -277,7 +286,7 @@ module _ {S : Type 0} (g : Ghosts S) where
 
   -- ---- what is upgraded
 
-  pub upgrade_that_leaves_the_version_is_not_committed : (old : Held S) (s : Seen S) → IsFirstSchema old.schema
+  pub upgrade_that_leaves_the_version_is_not_committed : (old : Held S) (s : StoreState S) → IsFirstSchema old.schema
       → HasDisk g s
       → (state g old).now.trees ≡ first → (state g s.conn).now.trees ≡ first → UpgradesStore g old s → ⊥
   upgrade_that_leaves_the_version_is_not_committed old s six disk was is upgrades =
@@ -285,19 +294,23 @@ module _ {S : Type 0} (g : Ghosts S) where
       omega (arith, ap version_in (sym (ap (λ (t : Trees). t 0) is) ∙ made.portal))
 
   -- of the portal's own six tables, whatever stands beside them
-  pub upgraded_tables_without_a_row_did_not_stand : (old : Held S) (s : Seen S) → HasFirstSchema old.schema
+  pub upgraded_tables_without_a_row_did_not_stand : (old : Held S) (s : StoreState S) → HasFirstSchema old.schema
       → HasDisk g s
       → (state g old).now.trees ≡ nothing → UpgradesStore g old s → ⊥
   upgraded_tables_without_a_row_did_not_stand old s six disk is upgrades =
-      omega (arith, ap (λ (rows : List Row). length rows) (subst (HasGoodFirst first_version) is ((upgrades.judged disk).first.good six)).office.is)
+      omega (
+        arith,
+        ap (λ (rows : List Row). length rows)
+            (subst (HasGoodFirst first_version) is ((upgrades.judged disk).first.good six)).office.is,
+      )
 
-  pub tables_with_a_refused_query_are_not_upgraded : (old : Held S) (s : Seen S) → (IsFirstSchema old.schema → ⊥)
+  pub tables_with_a_refused_query_are_not_upgraded : (old : Held S) (s : StoreState S) → (IsFirstSchema old.schema → ⊥)
       → LacksStudents (state g old) → HasDisk g s → UpgradesStore g old s → ⊥
   tables_with_a_refused_query_are_not_upgraded old s other lacks disk upgrades =
       passes_none (state g old) _ other lacks (upgrades.judged disk).first.suits.passes
 
   -- `Exists` is owed
-  pub tables_with_a_taken_name_are_not_upgraded : (old : Held S) (s : Seen S) → has_names OfSecond old.schema ≡ true
+  pub tables_with_a_taken_name_are_not_upgraded : (old : Held S) (s : StoreState S) → has_names OfSecond old.schema ≡ true
       → UpgradesStore g old s → ⊥
   tables_with_a_taken_name_are_not_upgraded old s taken upgrades = let clash : true ≡ false = sym taken ∙ upgrades.free in cc
 
@@ -322,17 +335,17 @@ module _ {S : Type 0} (g : Ghosts S) where
 
   -- ---- what a call of a keeper leaves
 
-  pub disowned_store_does_not_stay : (old new : Seen S) → old.own ≡ true → new.own ≡ false → StaysStore g old new → ⊥
+  pub disowned_store_does_not_stay : (old new : StoreState S) → old.own ≡ true → new.own ≡ false → StaysStore g old new → ⊥
   disowned_store_does_not_stay old new was is stays = let clash : false ≡ true = sym is ∙ (stays.own ∙ was) in cc
 
   pub change_answered_before_its_commit_is_not_committed : {A E : Type 0} (x : A) (change : Change)
-      (old new : Seen S) → IsTrue old.own → HasDisk g new
+      (old new : StoreState S) → IsTrue old.own → HasDisk g new
       → (state g new.conn).committed.trees ≡ nothing → (state g new.conn).now.trees ≡ fresh
       → ChangesTables {E = E} g change (Ok x) old new → ⊥
   change_answered_before_its_commit_is_not_committed x change old new own disk was is changes =
       answer_before_the_commit_does_not_commit _ (state g old.conn) (state g new.conn) was is (changes.commits own disk)
 
-  pub old_tables_after_a_crash_are_not_durable : {A E : Type 0} (x : A) (change : Change) (old new : Seen S)
+  pub old_tables_after_a_crash_are_not_durable : {A E : Type 0} (x : A) (change : Change) (old new : StoreState S)
       → IsTrue old.own → HasDisk g new
       → (state g new.conn).may_leave nothing → (state g new.conn).now.trees ≡ fresh
       → ChangesTables {E = E} g change (Ok x) old new → ⊥
@@ -345,7 +358,7 @@ module _ {S : Type 0} (g : Ghosts S) where
       omega (arith, ap offices left, ap (λ (rows : List Row). length rows) changed.holds.1.office.is)
 
   -- neither the tables before the change nor those of the changed world
-  pub third_tables_after_a_crash_are_not_left : {A E : Type 0} (r : Result A E) (change : Change) (old new : Seen S)
+  pub third_tables_after_a_crash_are_not_left : {A E : Type 0} (r : Result A E) (change : Change) (old new : StoreState S)
       → IsCleanStore g old → HasDisk g new
       → (state g old.conn).now.trees ≡ fresh → (state g new.conn).may_leave nothing
       → ChangesTables {V = A} {E = E} g change r old new → ⊥

@@ -1,24 +1,26 @@
 -- Refutes replies to two streams that are the same for both, lack one's, are made up, cut off, written
 -- twice, or of another status. The first stream is empty; the last asks for a path that nobody has.
-use Rattle.std.proofs.Common.{◌≡◌, ℕ, ◌<◌, inl, inr, true, Bool, List, [], ◌∷◌, ◌++◌, map, Option, take}
-use Rattle.std.proofs.Common.{refl, sym, ap, ◌∙◌, subst, arith}
+use Rattle.std.proofs.Common.{◌≡◌, ℕ, ◌<◌, inl, inr, true, Bool, List, [], ◌∷◌, ◌++◌, Option, Some, None, take}
+use Rattle.std.proofs.Common.{refl, sym, ap, ◌∙◌, subst, arith, append-nil}
+use Rattle.std.specs.Prelude.{IfSome}
 use Rattle.std.specs.Bool.{MatchBool}
 use Rattle.std.specs.Fmt.{digits}
 use Rattle.std.specs.List.{AllByRecursion}
 use Rattle.httparse.specs.Grammar.{print_request}
 use Rattle.portal_frame.proofs.Unique.{Opens-unique}
-use Rattle.portal_frame.specs.Stream.{HasNoHead, Opens, RequestContent, fault, over, whole}
+use Rattle.portal_frame.specs.Stream.{HasNoHead, Opens, RequestContent, Faulty, Over, Whole}
 use Rattle.portal_rules.specs.Run.{Request, Run, Serves, end_of}
 use Rattle.portal_rules.specs.World.{World}
 use Rattle.portal_wire.specs.Conversation.{Closed, End, Ends, Exchange, Last, Leads, Limit, Refused, Rest}
-use Rattle.portal_wire.specs.Conversation.{closes_at, common_lines, connection_limit, more, replies_of}
-use Rattle.portal_wire.specs.Conversation.{requests_of, shut}
+use Rattle.portal_wire.specs.Conversation.{closes_at, common_lines, connection_limit, More, replies_of}
+use Rattle.portal_wire.specs.Conversation.{requests_of, Shut}
 use Rattle.portal_wire.specs.Wish.{route_at, the_paths}
-use Rattle.portal_desk.proofs.Heeding.{same_texts, whole_run}
+use Rattle.portal_desk.proofs.Heeding.{like_all}
 use Rattle.portal_desk.specs.declared.served.Cause.{Cause}
-use Rattle.portal_desk.specs.Headline.{AreVisits, HasPromise, Visit, exchanges_of, worlds_of}
-use Rattle.portal_desk.specs.Session.{Ended, Finish, Stopped, TellsExchanges}
-use Rattle.portal_whole.specs.Whole.{IsServedToEnd, KeepsPromise}
+use Rattle.portal_desk.specs.Headline.{HasPromise, exchanges_of}
+use Rattle.portal_desk.specs.Served.{ServeWhole}
+use Rattle.portal_desk.specs.Session.{Ended, Finish, Stopped, Stream, Tells, TellsExchanges, Visit}
+use Rattle.portal_whole.specs.Whole.{KeepsPromise}
 use Rattle.portal_refuted.proofs.PortalCoreLaws.{good_new, new}
 use Rattle.portal_refuted.proofs.PortalDeskServe.{Told, asks_plain, digit, exchange, no_end, not_twice, other_digit}
 use Rattle.portal_refuted.proofs.PortalDeskServe.{plain_tells, same_reply, sent}
@@ -42,13 +44,13 @@ no_head : HasNoHead []
 unfolding print_request
 no_head h rest takes = not_none _ _ _ (front _ _ (front _ _ (front _ _ (front _ _ takes.reads.1))))
 
-nothing_opens : Opens [] over
+nothing_opens : Opens [] Over
 nothing_opens = inr (no_head, refl)
 
-no_closing : (end : Last) (closing : List ℕ) → Ends (more []) end closing → closing ≡ []
+no_closing : (end : Last) (closing : List ℕ) → Ends (More []) end closing → closing ≡ []
 no_closing End closing ends = ends.1
 no_closing (Refused word) closing ends =
-    let same = Opens-unique [] (fault ends.0 ends.1) over ends.2 nothing_opens in absurd (cc)
+    let same = Opens-unique [] (Faulty ends.0 ends.1) Over ends.2 nothing_opens in absurd (cc)
 no_closing Closed closing ends = absurd ends
 no_closing Limit closing ends = absurd ends
 
@@ -57,7 +59,7 @@ unasked : (end : Last) (es : List Exchange) (written : List ℕ) → TellsExchan
 unasked end [] written (closing, (rest, leads, ends), is) =
     is ∙ no_closing end closing (subst (λ (r : Rest). Ends r end closing) leads ends)
 unasked end (e ∷ es) written (closing, (rest, (a, after, opens, asks, leads), ends), is) =
-    let same = Opens-unique [] (whole a after) over opens nothing_opens in absurd (cc)
+    let same = Opens-unique [] (Whole a after) Over opens nothing_opens in absurd (cc)
 
 -- ---- what the request is answered, whatever the world
 
@@ -65,7 +67,7 @@ no_request : (es : List Exchange) → requests_of es ≡ [] → es ≡ []
 no_request [] none = refl
 no_request (e ∷ es) none = absurd (cc)
 
-closed : (end : Last) (closing : List ℕ) → Ends (shut true) end closing → end ≡ Closed
+closed : (end : Last) (closing : List ℕ) → Ends (Shut true) end closing → end ≡ Closed
 closed End closing ends = absurd ends
 closed (Refused word) closing ends = absurd ends
 closed Closed closing ends = refl
@@ -76,9 +78,11 @@ shuts : (end : Last) (e : Exchange) (es : List Exchange) (written : List ℕ)
     → TellsExchanges (Ended end) plain_bytes (e ∷ es) written
     → (es ≡ []) × (end ≡ Closed)
 shuts end e es written (closing, (rest, (a, after, opens, is, leads), ends), all) =
-    let front : whole a after ≡ whole plain_asked [] = Opens-unique plain_bytes (whole a after) (whole plain_asked []) opens plain_opens in
+    let front : Whole a after ≡ Whole plain_asked [] = Opens-unique plain_bytes (Whole a after) (Whole plain_asked []) opens plain_opens in
     let asks : a ≡ plain_asked = cc in
-    let next : (requests_of es ≡ []) × (rest ≡ shut true) = subst (λ (b : RequestContent). MatchBool (closes_at connection_limit b) ((requests_of es ≡ []) × (rest ≡ shut b.close)) (Leads 255 after (requests_of es) rest)) asks leads in
+    let next : (requests_of es ≡ []) × (rest ≡ Shut true) =
+    subst (λ (b : RequestContent). MatchBool (closes_at connection_limit b) ((requests_of es ≡ []) × (rest ≡ Shut b.close))
+    (Leads 255 after (requests_of es) rest)) asks leads in
     (no_request es next.0, closed end closing (subst (λ (r : Rest). Ends r end closing) next.1 ends))
 
 answered : (w : World) (end : Last) (es : List Exchange) (worlds : List World) (written : List ℕ)
@@ -103,25 +107,40 @@ answered w end (e ∷ es) (u ∷ worlds) written tells run =
 abbrev AreTold : List (List ℕ) → Type 0
 AreTold texts = (t : List ℕ) × (texts ≡ [] ∷ t ∷ []) × Told t
 
-told_of : (w : World) (texts : List (List ℕ)) (visits : List Visit) → map (λ (v : Visit). v.bytes) visits ≡ streams
-    → map (λ (v : Visit). v.written) visits ≡ texts
-    → AllByRecursion IsServedToEnd visits → AreVisits w visits → AreTold texts
-told_of w texts [] bytes written ended are = absurd (cc)
-told_of w texts (u ∷ []) bytes written ended are = absurd (cc)
-told_of w texts (u ∷ v ∷ x ∷ visits) bytes written ended are = absurd (cc)
-told_of w texts (u ∷ v ∷ []) bytes written ended are =
-    let first : u.bytes ≡ [] = cc in
-    let last : v.bytes ≡ plain_bytes = cc in
-    let empty = unasked ended.0.0 u.exchanges u.written (subst (λ f. TellsExchanges f [] u.exchanges u.written) ended.0.1 (subst (λ b. TellsExchanges u.finish b u.exchanges u.written) first are.0.tells)) in
-    let one = answered _ ended.1.0.0 v.exchanges v.worlds v.written (subst (λ f. TellsExchanges f plain_bytes v.exchanges v.written) ended.1.0.1 (subst (λ b. TellsExchanges v.finish b v.exchanges v.written) last are.1.0.tells)) are.1.0.run in
-    (v.written, sym written ∙ ap (λ (t : List ℕ). t ∷ v.written ∷ []) empty, one)
+of_stream : (v : Visit) (bytes written : List ℕ) (end : Last)
+    → v.stream ≡ Some (record { bytes = bytes; written = written; finish = Ended end }) → Tells v
+    → TellsExchanges (Ended end) bytes v.exchanges written
+of_stream v bytes written end is tells =
+    subst (λ (o : Option Stream). IfSome o (λ s. TellsExchanges s.finish s.bytes v.exchanges s.written)) is tells
 
-are_visits : (w : World) (visits : List Visit) → HasPromise w visits → AreVisits w visits
-are_visits w visits promise = promise.0
+-- the exchanges of the last stream are a run, from wherever the first leave the world
+last_run : (w : World) (es fs : List Exchange) (worlds : List World) → Run w (requests_of (es ++ fs)) (replies_of (es ++ fs)) worlds
+    → (v : World) × (later : List World) × Run v (requests_of fs) (replies_of fs) later
+last_run w [] fs worlds run = (w, worlds, run)
+last_run w (e ∷ es) fs [] run = absurd run
+last_run w (e ∷ es) fs (v ∷ worlds) run = last_run v es fs worlds run.1
+
+told_of : (w : World) (texts : List (List ℕ)) (visits : List Visit) (worlds : List World) → ServeWhole visits streams texts
+    → AllByRecursion Tells visits
+    → Run w (requests_of (exchanges_of visits)) (replies_of (exchanges_of visits)) worlds → AreTold texts
+told_of w (s ∷ t ∷ []) (u ∷ v ∷ []) worlds (end, first, (last, second, none)) (tell, (also, _)) run =
+    let (from, later, ran) = last_run w u.exchanges (exchanges_of (v ∷ [])) worlds run in
+    let alone = subst (λ (es : List Exchange). Run from (requests_of es) (replies_of es) later) (append-nil v.exchanges) ran in (
+      t,
+      ap (λ (x : List ℕ). x ∷ t ∷ []) (unasked end u.exchanges s (of_stream u [] s end first tell)),
+      answered from last v.exchanges later t (of_stream v plain_bytes t last second also) alone,
+    )
+told_of w [] [] worlds serve tell run = absurd serve
+told_of w [] (u ∷ visits) worlds serve tell run = absurd serve
+told_of w (s ∷ texts) [] worlds serve tell run = absurd serve
+told_of w (s ∷ []) (u ∷ []) worlds serve tell run = absurd serve.2
+told_of w (s ∷ []) (u ∷ v ∷ visits) worlds serve tell run = absurd serve.2
+told_of w (s ∷ t ∷ texts) (u ∷ []) worlds serve tell run = absurd serve.2
+told_of w (s ∷ t ∷ x ∷ texts) (u ∷ v ∷ []) worlds serve tell run = absurd serve.2.2
+told_of w (s ∷ t ∷ texts) (u ∷ v ∷ x ∷ visits) worlds serve tell run = absurd serve.2.2
 
 told : (w : World) (texts : List (List ℕ)) → KeepsPromise w streams texts → AreTold texts
-told w texts (visits, bytes, written, ended, promise) =
-    told_of w texts visits bytes written ended (are_visits w visits promise)
+told w texts (visits, serve, tell, worlds, promise) = told_of w texts visits worlds serve tell promise.0.run
 
 -- ---- refuted
 
@@ -166,58 +185,62 @@ pub last_reply_written_twice_keeps_no_promise : (w : World) (s : List ℕ)
     → KeepsPromise w streams (s ∷ (sent ++ sent) ∷ []) → ⊥
 last_reply_written_twice_keeps_no_promise w s keeps = not_twice (last_told w s (sent ++ sent) keeps)
 
-pub stream_given_up_is_not_served_to_its_end : (v : Visit) (why : Cause) (failed : Bool) (left : Option (List ℕ))
-    → v.finish ≡ Stopped why failed left
-    → IsServedToEnd v → ⊥
-stream_given_up_is_not_served_to_its_end v why failed left stopped (end, ended) = cc
+abbrev finish_in : Option Stream → Finish
+finish_in (Some s) = s.finish
+finish_in None = Ended End
 
--- the request is served from this world, which it leaves
-abbrev asked_from : World → List ℕ → List ℕ → Finish → Visit
-asked_from w bytes written finish =
-    record { bytes = bytes; written = written; finish = finish; exchanges = exchange ∷ []; worlds = w ∷ [] }
+pub stream_given_up_is_not_served_to_its_end : (v : Visit) (bytes written text : List ℕ) (why : Cause) (failed : Bool)
+    (left : Option (List ℕ))
+    → v.stream ≡ Some (record { bytes = bytes; written = written; finish = Stopped why failed left })
+    → ServeWhole (v ∷ []) (bytes ∷ []) (text ∷ []) → ⊥
+stream_given_up_is_not_served_to_its_end v bytes written text why failed left stopped (end, ended, none) =
+    let same : Stopped why failed left ≡ Ended end = ap finish_in (sym stopped ∙ ended) in cc
 
 -- the first stream changes the world, and the last is served over a store of its own
-pub last_stream_over_a_new_store_has_no_promise : (w : World) (v : Visit) (bytes written : List ℕ) (finish : Finish)
-    → (end_of w v.worlds ≡ w → ⊥)
-    → HasPromise w (v ∷ asked_from w bytes written finish ∷ []) → ⊥
+pub last_stream_over_a_new_store_has_no_promise : (w : World) (es : List Exchange) (worlds : List World) → (end_of w worlds ≡ w → ⊥)
+    → HasPromise w (es ++ exchange ∷ []) (worlds ++ w ∷ []) → ⊥
 unfolding route_at the_paths
-last_stream_over_a_new_store_has_no_promise w v bytes written finish changed promise =
-    changed (left (are_visits w (v ∷ asked_from w bytes written finish ∷ []) promise).1.0.run.0)
+last_stream_over_a_new_store_has_no_promise w es worlds changed promise = changed (ends w es worlds w promise.0.run)
   where
-    left : Serves (end_of w v.worlds) exchange.request exchange.reply w → end_of w v.worlds ≡ w
-    left (inl answers) = sym answers.1
-    left (inr none) = sym none.1
+    ends : (u : World) (es : List Exchange) (worlds : List World) (v : World)
+        → Run u (requests_of (es ++ exchange ∷ [])) (replies_of (es ++ exchange ∷ [])) (worlds ++ v ∷ []) → end_of u worlds ≡ v
+    ends u [] [] v (inl answers, none) = sym answers.1
+    ends u [] [] v (inr failed, none) = sym failed.1
+    ends u [] (x ∷ []) v run = absurd run.1
+    ends u [] (x ∷ y ∷ worlds) v run = absurd run.1
+    ends u (e ∷ []) [] v run = absurd run.1
+    ends u (e ∷ f ∷ es) [] v run = absurd run.1
+    ends u (e ∷ es) (x ∷ worlds) v run = ends x es worlds v run.1
 
 -- ---- the right texts, of a new store
 
 abbrev silent : Visit
-silent = record { bytes = []; written = []; finish = Ended End; exchanges = []; worlds = [] }
+silent = record { exchanges = []; stream = Some (record { bytes = []; written = []; finish = Ended End }) }
 
 abbrev asking : Visit
-asking = record { bytes = plain_bytes; written = sent; finish = Ended Closed; exchanges = exchange ∷ []; worlds = new ∷ [] }
+asking = record { exchanges = exchange ∷ []; stream = Some (record { bytes = plain_bytes; written = sent; finish = Ended Closed }) }
 
-are_right : AreVisits new (silent ∷ asking ∷ [])
+a_run : Run new (exchange.request ∷ []) (exchange.reply ∷ []) (new ∷ [])
 unfolding route_at the_paths
-are_right = (
-  record { tells = ([], (more [], refl, (nothing_opens, refl)), refl); run = tt },
-  (record { tells = plain_tells; run = (inl (refl, refl), tt) }, tt),
-)
+a_run = (inl (refl, refl), tt)
 
-abbrev visits : List Visit
-visits = silent ∷ asking ∷ []
-
-right_promise : HasPromise new visits
+right_promise : HasPromise new (exchange ∷ []) (new ∷ [])
 right_promise = (
-  are_right,
   record {
-    run = whole_run new visits are_right;
+    run = a_run;
     good = (good_new, tt);
     unseen = λ c. ((λ member other office. refl), tt);
     published = ((λ off on. absurd (cc)), tt);
     best = λ shows. (shows, tt);
   },
-  λ v fs later run. same_texts new (exchanges_of visits) (worlds_of visits) v fs later (whole_run new visits are_right) run,
+  like_all new (exchange ∷ []) (new ∷ []) a_run,
 )
 
 pub right_texts_keep_the_promise : KeepsPromise new streams ([] ∷ sent ∷ [])
-right_texts_keep_the_promise = (visits, refl, refl, ((End, refl), ((Closed, refl), tt)), right_promise)
+right_texts_keep_the_promise = (
+  silent ∷ asking ∷ [],
+  (End, refl, (Closed, refl, tt)),
+  (([], (More [], refl, (nothing_opens, refl)), refl), (plain_tells, tt)),
+  new ∷ [],
+  right_promise,
+)

@@ -5,7 +5,7 @@ use Rattle.std.specs.Prelude.{codes}
 use Rattle.std.proofs.lemmas.List.{append_cancel_left, append_cancel_right}
 use Rattle.portal_frame.specs.Stream.{RequestContent, RefusalContent}
 use Rattle.portal_rules.specs.Run.{Calls, NoCall, Wish, unavailable}
-use Rattle.portal_rules.specs.Sight.{AbstractCall}
+use Rattle.portal_rules.specs.Calls.{AbstractCall}
 use Rattle.portal_wire.specs.Conversation.{close_line, common_lines, crlf, reply_lines, reply_text, unavailable_body}
 use Rattle.portal_wire.specs.Wish.{bad_method, no_route, route_at, the_paths, turned_away, wish_of}
 
@@ -50,7 +50,8 @@ me_is_asked = refl
 pub reply_to_head_has_no_body : reply_text unavailable true true ≡ reply_text unavailable false true → ⊥
 unfolding unavailable_body
 reply_to_head_has_no_body same =
-    let none : [] ≡ unavailable_body = append_cancel_left (reply_lines unavailable (length unavailable_body) true) [] unavailable_body same in
+    let none : [] ≡ unavailable_body = append_cancel_left
+    (reply_lines unavailable (length unavailable_body) true) [] unavailable_body same in
     omega (arith, ap (λ t. get_or t 0 0) none)
 
 abbrev lines : Bool → List ℕ

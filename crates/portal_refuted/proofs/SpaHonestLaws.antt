@@ -9,7 +9,7 @@ use Rattle.spa_honest.specs.Honest.{OrderAlike}
 use Rattle.spa_honest.proofs.Lists.{one_on}
 use Rattle.spa_honest.specs.examples.Varied.{varied, lee, two_ways, swap}
 use Rattle.spa_honest.proofs.Varied.{two_lawful, two_best, two_other, swap_lawful, swap_best}
-use Rattle.spa_honest.proofs.Tested.{lawful_by, best_by, stable_by, best_among}
+use Rattle.spa_honest.proofs.Tested.{lawful_by, best_by, stable_by}
 
 -- ---- same_assigned: as many at each project, also of a full lecturer
 abbrev AsManyEverywhere : Type 0
@@ -19,7 +19,8 @@ AsManyEverywhere =
 
 pub full_lecturers_projects_differ : AsManyEverywhere → ⊥
 full_lecturers_projects_differ law =
-    let same : 1 ≡ 0 = law two_ways (Some kites ∷ Some bells ∷ None ∷ []) (Some bells ∷ Some tides ∷ None ∷ []) kites two_lawful two_best.stable two_other in
+    let same : 1 ≡ 0 = law two_ways (Some kites ∷ Some bells ∷ None ∷ [])
+    (Some bells ∷ Some tides ∷ None ∷ []) kites two_lawful two_best.stable two_other in
     omega (arith, same)
 
 -- and the same students at each project of a lecturer with room, also a full one: Ann and Ben have
@@ -55,7 +56,8 @@ LecturersBest =
 
 pub lecturers_best_is_wrong : LecturersBest → ⊥
 lecturers_best_is_wrong law =
-    let no_more : 1 ≤ 0 = law two_ways (Some kites ∷ Some bells ∷ None ∷ []) (Some bells ∷ Some tides ∷ None ∷ []) lee 1 two_lawful two_best two_other in
+    let no_more : 1 ≤ 0 = law two_ways (Some kites ∷ Some bells ∷ None ∷ [])
+    (Some bells ∷ Some tides ∷ None ∷ []) lee 1 two_lawful two_best two_other in
     omega (arith, no_more)
 
 -- nor is everybody whom a lecturer gains ranked above everybody whom the lecturer loses, as with hospitals:
@@ -81,7 +83,7 @@ trades_lawful : IsLawful two_trades
 trades_lawful = lawful_by two_trades refl
 
 trades_best : IsBest two_trades firsts
-trades_best = best_among two_trades firsts (stable_by two_trades (ranked_of two_trades trades_lawful) firsts refl) refl
+trades_best = best_by two_trades (ranked_of two_trades trades_lawful) firsts refl
 
 -- who has Bells is not with Lee
 with_moe : (m : List (Option ℕ)) (s : ℕ) → project_of m s ≡ Some bells → IsWith two_trades m lee s → ⊥
@@ -109,7 +111,8 @@ ann_alone_lawful = lawful_by ann_alone refl
 pub projects_below_have_room : NoneListedHasRoom → ⊥
 projects_below_have_room law =
     law ann_alone (Some kites ∷ None ∷ None ∷ []) ann bells ann_alone_lawful
-    (stable_by ann_alone (ranked_of ann_alone ann_alone_lawful) (Some kites ∷ None ∷ None ∷ []) refl) (omega arith) (omega arith, omega arith)
+    (stable_by ann_alone (ranked_of ann_alone ann_alone_lawful) (Some kites ∷ None ∷ None ∷ []) refl) (omega arith)
+    (omega arith, omega arith)
 
 -- ---- blocked_outside: whoever gains takes from somebody
 abbrev SomebodyLoses : Type 0
@@ -132,7 +135,8 @@ swapped = record { students = refl; acceptable = acceptable; projects = projects
     projects (suc zero) = omega arith
     projects (suc (suc zero)) = omega arith
     projects (suc (suc (suc p))) =
-        let other : (n : ℕ) → n < 3 → eqb n (suc (suc (suc p))) ≡ false = λ n low. ne_eqb n (suc (suc (suc p))) (λ e. absurd (omega (arith, e, low))) in
+        let other : (n : ℕ) → n < 3 → eqb n (suc (suc (suc p)))
+        ≡ false = λ n low. ne_eqb n (suc (suc (suc p))) (λ e. absurd (omega (arith, e, low))) in
         rw (other 0 (omega arith), other 2 (omega arith)) (omega arith)
 
     lecturers : (l : ℕ) → at_lecturer swap (Some bells ∷ Some tides ∷ None ∷ []) l ≤ limit_of swap l
@@ -144,13 +148,15 @@ swapped = record { students = refl; acceptable = acceptable; projects = projects
 
 pub nobody_loses_by_the_swap : SomebodyLoses → ⊥
 nobody_loses_by_the_swap law =
-    let one = law swap (Some tides ∷ Some bells ∷ None ∷ []) (Some bells ∷ Some tides ∷ None ∷ []) ann swap_lawful swap_best swapped gains in
+    let one = law swap (Some tides ∷ Some bells ∷ None ∷ [])
+    (Some bells ∷ Some tides ∷ None ∷ []) ann swap_lawful swap_best swapped gains in
     one.1 (no_loss one.0)
   where
     gains : IsAsGood swap ann (Some tides) (Some bells) → ⊥
     gains good = elim good [ inl same ↦ omega (arith, same) | inr before ↦ omega (arith, before.0) ]
 
-    no_loss : (t : ℕ) → IsAsGood swap t (project_of (Some bells ∷ Some tides ∷ None ∷ []) t) (project_of (Some tides ∷ Some bells ∷ None ∷ []) t)
+    no_loss : (t : ℕ) → IsAsGood swap t (project_of (Some bells ∷ Some tides ∷ None ∷ []) t)
+        (project_of (Some tides ∷ Some bells ∷ None ∷ []) t)
     no_loss zero = inr (omega arith, omega arith)
     no_loss (suc zero) = inr (omega arith, omega arith)
     no_loss (suc (suc zero)) = tt
@@ -172,7 +178,8 @@ one_place_lawful = lawful_by one_place refl
 pub other_projects_of_the_lecturer_too : OnlyThatProject → ⊥
 other_projects_of_the_lecturer_too law =
     let same : tides ≡ kites = law one_place (Some kites ∷ None ∷ None ∷ []) ann kites 1 tides A one_place_lawful
-    (stable_by one_place (ranked_of one_place one_place_lawful) (Some kites ∷ None ∷ None ∷ []) refl) refl (λ e. omega (arith, e)) ((omega arith, tt), omega arith, omega arith) in
+    (stable_by one_place (ranked_of one_place one_place_lawful) (Some kites ∷ None ∷ None ∷ []) refl) refl (λ e. omega (arith, e))
+    ((omega arith, tt), omega arith, omega arith) in
     omega (arith, same)
 
 -- ---- shorter_never_harm: lists thinned, and not cut at the end

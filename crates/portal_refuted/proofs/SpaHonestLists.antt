@@ -25,7 +25,14 @@ few_best = best_by few (ranked_of few few_lawful) (Some bells ∷ Some tides ∷
 -- two examples differ in Ann's list alone
 differ : (one other : List ℕ) → DifferInOneList (example one) (example other) ann
 differ one other =
-    record { students = refl; lecturers = refl; capacities = refl; limits = refl; others = others; orders = λ l a b on_a on_b before. before }
+    record {
+      students = refl;
+      lecturers = refl;
+      capacities = refl;
+      limits = refl;
+      others = others;
+      orders = λ l a b on_a on_b before. before;
+    }
   where
     others : (t : ℕ) → (t ≡ ann → ⊥) → choices_of (example other) t ≡ choices_of (example one) t
     others zero not_ann = absurd (not_ann refl)
@@ -40,7 +47,8 @@ BestByTheOtherList =
 
 pub honest_list_is_worse_by_the_other_list : BestByTheOtherList → ⊥
 honest_list_is_worse_by_the_other_list law =
-    elim (law (example honest_list) (example safe_list) ann _ _ honest_lawful safe_lawful (differ honest_list safe_list) honest_best safe_best.stable bells refl (omega arith)) [
+    elim (law (example honest_list) (example safe_list) ann _ _ honest_lawful safe_lawful
+    (differ honest_list safe_list) honest_best safe_best.stable bells refl (omega arith)) [
       | inl same ↦ omega (arith, same)
       | inr before ↦ omega (arith, before.0)
     ]
@@ -57,7 +65,8 @@ not_as_good good = elim good [ inl same ↦ omega (arith, same) | inr before ↦
 
 pub unlisted_project_may_be_had_with_another_list : BestOfAnyProject → ⊥
 unlisted_project_may_be_had_with_another_list law =
-    not_as_good (law few (example honest_list) ann _ _ few_lawful honest_lawful (differ (tides ∷ bells ∷ []) honest_list) few_best honest_best.stable kites refl)
+    not_as_good (law few (example honest_list) ann _ _ few_lawful honest_lawful
+    (differ (tides ∷ bells ∷ []) honest_list) few_best honest_best.stable kites refl)
 
 -- ---- the other list may have other projects
 
@@ -68,7 +77,8 @@ OrderAnyProjects =
 
 pub other_projects_listed_are_not_judged : OrderAnyProjects → ⊥
 other_projects_listed_are_not_judged law =
-    not_as_good (law few (example honest_list) ann _ _ few_lawful honest_lawful (differ (tides ∷ bells ∷ []) honest_list) few_best honest_best.stable)
+    not_as_good (law few (example honest_list) ann _ _ few_lawful honest_lawful
+    (differ (tides ∷ bells ∷ []) honest_list) few_best honest_best.stable)
 
 -- ---- lecturers who order the students by what is handed in
 
@@ -98,13 +108,21 @@ for_ann_best = best_by for_ann (ranked_of for_ann for_ann_lawful) (Some tides �
 
 pub rankings_that_differ_may_pay : BestForAnyRankings → ⊥
 rankings_that_differ_may_pay law =
-    elim (law (example honest_list) for_ann ann _ _ honest_lawful for_ann_lawful only_orders honest_best for_ann_best.stable tides refl (omega arith)) [
+    elim (law (example honest_list) for_ann ann _ _ honest_lawful for_ann_lawful only_orders honest_best for_ann_best.stable tides refl
+    (omega arith)) [
       | inl same ↦ omega (arith, same)
       | inr before ↦ omega (arith, before.0)
     ]
   where
     only_orders : DifferInRankingsToo (example honest_list) for_ann
-    only_orders = record { students = refl; lecturers = refl; capacities = refl; limits = refl; others = λ t. refl; orders = λ l a b on_a on_b before. on_b }
+    only_orders = record {
+      students = refl;
+      lecturers = refl;
+      capacities = refl;
+      limits = refl;
+      others = λ t. refl;
+      orders = λ l a b on_a on_b before. on_b;
+    }
 
 -- ---- second rounds that break a rule; Lee takes one student, and ranks Ben before Ann
 
@@ -128,7 +146,14 @@ apart_best : IsBest apart (None ∷ Some 1 ∷ [])
 apart_best = best_by apart (ranked_of apart apart_lawful) (None ∷ Some 1 ∷ []) refl
 
 same_lists : DifferInLists apart apart (IsOn (0 ∷ []))
-same_lists = record { students = refl; lecturers = refl; capacities = refl; limits = refl; others = λ t not_on. refl; orders = λ l a b on_a on_b before. before }
+same_lists = record {
+  students = refl;
+  lecturers = refl;
+  capacities = refl;
+  limits = refl;
+  others = λ t not_on. refl;
+  orders = λ l a b on_a on_b before. before;
+}
 
 -- whoever of this group of one gains nothing, is Ann, and she does not have Kites in the second round
 ann_gains : (s : ℕ) × IsOn (0 ∷ []) s × IsNoWorse apart s (project_of (None ∷ Some 1 ∷ []) s)
@@ -151,7 +176,8 @@ NoGroupGainsOverLimits =
 
 pub overfilled_lecturer_lets_a_group_gain : NoGroupGainsOverLimits → ⊥
 overfilled_lecturer_lets_a_group_gain law =
-    ann_gains (law apart apart (0 ∷ []) _ _ (Some 0 ∷ Some 1 ∷ []) apart_lawful apart_lawful same_lists (omega arith) apart_best apart_best.stable adds)
+    ann_gains (law apart apart (0 ∷ []) _ _ (Some 0 ∷ Some 1 ∷ []) apart_lawful apart_lawful same_lists
+    (omega arith) apart_best apart_best.stable adds)
   where
     past : (n k : ℕ) → n ≤ 1 → eqb n (suc (suc k)) ≡ false
     past n k low = ne_eqb n (suc (suc k)) (λ e. absurd (omega (arith, e, low)))
@@ -190,7 +216,8 @@ moved_gains (suc s, on, no_worse) =
 -- Ben is moved out, and Ann in
 pub moved_student_lets_a_group_gain : NoGroupGainsByMoves → ⊥
 moved_student_lets_a_group_gain law =
-    moved_gains (law apart apart (0 ∷ []) _ _ (Some 0 ∷ None ∷ []) apart_lawful apart_lawful same_lists (omega arith) apart_best apart_best.stable adds)
+    moved_gains (law apart apart (0 ∷ []) _ _ (Some 0 ∷ None ∷ []) apart_lawful apart_lawful same_lists
+    (omega arith) apart_best apart_best.stable adds)
   where
     projects : (p : ℕ) → at_project (Some 0 ∷ None ∷ []) p ≤ capacity_of apart p
     projects zero = omega arith

@@ -41,10 +41,12 @@ take-all n (b ∷ text) all le =
     let parts = and_parts (nat_lt b 128) (list_all (λ c. nat_lt c 128) text) all in
     let positive : (n == 0) ≡ false = grind (arith, common_steps, le) in
     ap (λ t. if t then (if n == 0 then [] else b ∷ take_chars (n - 1) text) else b ∷ take_chars n text) (start b parts.0)
-    ∙ (ap (λ t. if t then [] else b ∷ take_chars (n - 1) text) positive ∙ ap (λ xs. b ∷ xs) (take-all (n - 1) text parts.1 (omega (arith, le))))
+    ∙ (ap (λ t. if t then [] else b ∷ take_chars (n - 1) text) positive
+    ∙ ap (λ xs. b ∷ xs) (take-all (n - 1) text parts.1 (omega (arith, le))))
 
 short : (text : List ℕ) → IsTrue (is_short text) → (length text ≤ 16) × (list_all (λ b. nat_lt b 128) text ≡ true)
-short text is = let parts = and_parts (nat_le (length text) 16) (list_all (λ b. nat_lt b 128) text) is in (leb-true (length text) 16 parts.0, parts.1)
+short text is = let parts = and_parts (nat_le (length text) 16) (list_all (λ b. nat_lt b 128) text) is in
+    (leb-true (length text) 16 parts.0, parts.1)
 
 pub left-is : (text : List ℕ) → IsTrue (is_short text)
     → styled_text (format_spec 32 1 0 16 18446744073709551615) text ≡ padded_left 16 text
@@ -53,7 +55,8 @@ left-is text is =
     let known = short text is in
     let same = take-all 18446744073709551615 text known.1 (omega (arith, known.0)) in
     ap (λ shown. shown ++ repeat (16 - char_count shown - 0) (encode_utf8 32)) same
-    ∙ ap (λ xs. text ++ xs) (fill (16 - char_count text - 0) ∙ ap (λ n. replicate n 32) (count (char_count text) (length text) (count-all text known.1)))
+    ∙ ap (λ xs. text ++ xs) (fill (16 - char_count text - 0)
+    ∙ ap (λ n. replicate n 32) (count (char_count text) (length text) (count-all text known.1)))
   where
     count : (m n : ℕ) → m ≡ n → 16 - m - 0 ≡ 16 - n
     count m n e = omega (arith, e)
@@ -70,7 +73,8 @@ shape xs ds zs e =
     ∙ ap (λ ys. xs ++ ys) (ap (λ ys. ds ++ ys) e ∙ append-nil ds)
 
 after-blanks : (space room : ℕ) (ds : List ℕ) → space ≡ room
-    → (((repeat {A = ℕ} space (encode_utf8 32) ++ []) ++ []) ++ []) ++ (ds ++ repeat (space - space) (encode_utf8 32)) ≡ replicate {A = ℕ} room 32 ++ ds
+    → (((repeat {A = ℕ} space (encode_utf8 32) ++ []) ++ []) ++ []) ++ (ds ++ repeat (space - space) (encode_utf8 32))
+    ≡ replicate {A = ℕ} room 32 ++ ds
 after-blanks space room ds same =
     let none : space - space ≡ 0 = omega arith in
     shape (repeat space (encode_utf8 32)) ds (repeat (space - space) (encode_utf8 32)) (ap (λ k. repeat {A = ℕ} k (encode_utf8 32)) none)
@@ -83,4 +87,5 @@ pub right-is : (width n : ℕ) → (width == 0) ≡ false
     → styled_decimal (format_spec 32 3 0 width 18446744073709551615) n ≡ padded_right width (decimal n)
 unfolding padded_integral char_count
 right-is width n wide =
-    not-bare (width == 0) (decimal n) _ wide ∙ after-blanks (width - length (decimal n) - 0 - 0) (width - length (decimal n)) (decimal n) (omega arith)
+    not-bare (width == 0) (decimal n) _ wide
+    ∙ after-blanks (width - length (decimal n) - 0 - 0) (width - length (decimal n)) (decimal n) (omega arith)

@@ -4,7 +4,7 @@ use Rattle.portal_rules.specs.declared.phase.Phase.{Phase}
 use Rattle.portal_rules.specs.declared.phase.Round.{Round}
 use Rattle.portal_rules.specs.declared.phase.Round.TheVariants.{First, Second}
 use Rattle.portal_rules.specs.World.{phase_word, has_result}
-use Rattle.portal_rules.specs.Sight.{OfficeSees}
+use Rattle.portal_rules.specs.Calls.{OfficeSees}
 use Rattle.portal_rules.specs.Bodies.{padded_left, padded_right, line_feed}
 
 unfoldable pub number_line : List ℕ → ℕ → List ℕ

@@ -2,10 +2,11 @@
 
 ghost use Rattle.std.specs.Prelude.{◌≡◌, ◌++◌, IfOk, OnOk};
 ghost use Rattle.std.specs.List.{flat_map};
-ghost use Rattle.portal_rules.specs.Bodies as sheet;
+ghost use Rattle.portal_rules.specs.Bodies as bodies;
 
 use crate::lines::{assigned_line, placed_line, project_line, unplaced_line};
-use portal_rules::{OfficeView, Placings, StudentRow, students_at};
+use portal_rules::index::Placings;
+use portal_rules::{OfficeView, StudentRow, students_at};
 use std::alloc::{AllocError, Global};
 
 /// Appends the line of a student to the text of the result.
@@ -16,7 +17,7 @@ fn put_student(
     student: &StudentRow,
 ) -> Result<(), AllocError>
     ensures { OnOk result (text.new.items ≡ text.old.items
-        ++ sheet.student_line placings.now student.now) }
+        ++ bodies.student_line placings.now student.now) }
 {
     let line = match placings.project_of(student) {
         Some(project) => placed_line(alloc, &student.key, project)?,
@@ -28,7 +29,7 @@ fn put_student(
 /// Appends the lines of the students to the text of the result.
 fn put_students(text: &mut Vec<u8>, alloc: Global, view: &OfficeView) -> Result<(), AllocError>
     ensures { OnOk result (text.new.items ≡ text.old.items
-        ++ flat_map (sheet.student_line view.now) view.now.students) }
+        ++ flat_map (bodies.student_line view.now) view.now.students) }
 {
     let placings = Placings::of(alloc, view)?;
     for student in view.students.iter() {
@@ -40,7 +41,7 @@ fn put_students(text: &mut Vec<u8>, alloc: Global, view: &OfficeView) -> Result<
 /// Appends the lines of the projects to the text of the result.
 fn put_projects(text: &mut Vec<u8>, alloc: Global, view: &OfficeView) -> Result<(), AllocError>
     ensures { OnOk result (text.new.items ≡ text.old.items
-        ++ flat_map (sheet.project_line view.now) view.now.projects) }
+        ++ flat_map (bodies.project_line view.now) view.now.projects) }
 {
     for project in view.projects.iter() {
         let students = students_at(&view.pairs, &project.key);
@@ -53,7 +54,7 @@ fn put_projects(text: &mut Vec<u8>, alloc: Global, view: &OfficeView) -> Result<
 /// Returns the result as text: a line for each student, a line for each project, both by key, and
 /// how many students have a project. An error means that memory ran out.
 pub fn allocation_text(alloc: Global, view: &OfficeView) -> Result<Vec<u8>, AllocError>
-    ensures { IfOk result (λ text. text.items ≡ sheet.report_text view.now) }
+    ensures { IfOk result (λ text. text.items ≡ bodies.result_text view.now) }
 {
     let mut text = Vec::new(alloc);
     put_students(&mut text, alloc, view)?;

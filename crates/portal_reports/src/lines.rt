@@ -2,7 +2,7 @@
 
 ghost use Rattle.std.specs.Prelude.{◌≡◌, ◌++◌, IfOk, IsTrue, Some, None, codes, decimal};
 ghost use Rattle.std.specs.Prelude.{string_bytes};
-ghost use Rattle.portal_rules.specs.Bodies as sheet;
+ghost use Rattle.portal_rules.specs.Bodies as bodies;
 ghost use Rattle.portal_reports.specs.Status as spec;
 ghost use Rattle.portal_reports.specs.inner.Labels as form;
 
@@ -40,8 +40,8 @@ pub(crate) fn placed_line(
     student: &Key,
     project: &ProjectRow,
 ) -> Result<String, AllocError>
-    ensures { IfOk result (λ line. string_bytes line ≡ sheet.padded_left 16 student.now
-        ++ codes "  " ++ sheet.project_and_lecturer (Some project.now) ++ sheet.line_feed) }
+    ensures { IfOk result (λ line. string_bytes line ≡ bodies.padded_left 16 student.now
+        ++ codes "  " ++ bodies.project_and_lecturer (Some project.now) ++ bodies.line_feed) }
 {
     let key = short(student);
     let place = short(&project.key);
@@ -50,8 +50,8 @@ pub(crate) fn placed_line(
 
 /// Formats the line of a student who has no project.
 pub(crate) fn unplaced_line(alloc: Global, student: &Key) -> Result<String, AllocError>
-    ensures { IfOk result (λ line. string_bytes line ≡ sheet.padded_left 16 student.now
-        ++ codes "  " ++ sheet.project_and_lecturer None ++ sheet.line_feed) }
+    ensures { IfOk result (λ line. string_bytes line ≡ bodies.padded_left 16 student.now
+        ++ codes "  " ++ bodies.project_and_lecturer None ++ bodies.line_feed) }
 {
     let key = short(student);
     format!(in alloc; "{key:<16}  (none)\n")
@@ -64,9 +64,9 @@ pub(crate) fn project_line(
     students: usize,
 ) -> Result<String, AllocError>
     ensures { IfOk result (λ line. string_bytes line
-        ≡ sheet.padded_left 16 project.now.key ++ sheet.padded_right 4 (decimal students)
-        ++ codes " of " ++ sheet.padded_right 4 (decimal project.now.capacity)
-        ++ sheet.line_feed) }
+        ≡ bodies.padded_left 16 project.now.key ++ bodies.padded_right 4 (decimal students)
+        ++ codes " of " ++ bodies.padded_right 4 (decimal project.now.capacity)
+        ++ bodies.line_feed) }
 {
     let key = short(&project.key);
     format!(in alloc; "{key:<16}{students:>4} of {:>4}\n", project.capacity)
@@ -79,7 +79,7 @@ pub(crate) fn assigned_line(
     students: usize,
 ) -> Result<String, AllocError>
     ensures { IfOk result (λ line. string_bytes line ≡ codes "assigned " ++ decimal assigned
-        ++ codes " of " ++ decimal students ++ sheet.line_feed) }
+        ++ codes " of " ++ decimal students ++ bodies.line_feed) }
 {
     format!(in alloc; "assigned {assigned} of {students}\n")
 }

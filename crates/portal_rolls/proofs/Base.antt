@@ -18,7 +18,7 @@ pub use Rattle.csv.specs.Writing.{default_writer, row_text, needs_byte, field_te
 pub use Rattle.csv.specs.declared.reader.Reader.{Reader}
 pub use Rattle.portal_rules.specs.Bodies.{csv_header, csv_record, student_fields, needs_quotes, doubled, csv_field}
 pub use Rattle.portal_rules.specs.Bodies.{csv_text, project_given, project_fields}
-pub use Rattle.portal_rules.specs.Sight.{OfficeSees}
+pub use Rattle.portal_rules.specs.Calls.{OfficeSees}
 pub use Rattle.portal_rules.specs.Words.{is_code, is_name}
 pub use Rattle.portal_rules.specs.declared.rows.ProjectRow.{ProjectRow}
 pub use Rattle.portal_rules.specs.declared.rows.StudentRow.{StudentRow}

@@ -22,5 +22,6 @@ module _ {X : Type 0} (row : ℕ) (p q r : Text → Bool) (first second third ca
     where
       go : (s t u v : Bool) → unless s (fault.BadField row i) (Ok first) ≡ Ok x
           → unless t (fault.BadField row j) (Ok second) ≡ Ok y → unless u (fault.BadField row k) (Ok third) ≡ Ok z
-          → Err e ≡ unless v (fault.BadField row 4) (Ok (digits_value capacity)) → unless_bad row (position_from not 1 (s ∷ t ∷ u ∷ v ∷ [])) line ≡ Err e
+          → Err e ≡ unless v (fault.BadField row 4) (Ok (digits_value capacity))
+          → unless_bad row (position_from not 1 (s ∷ t ∷ u ∷ v ∷ [])) line ≡ Err e
       go s t u v a b c d = grind arith

@@ -43,7 +43,8 @@ name_split : (ns : List (Bor (List ℕ))) (i : ℕ) (d : Bor (List ℕ)) → i <
     → drop i (texts ns) ≡ (get_or ns i d).now ∷ drop (i + 1) (texts ns)
 name_split ns i d lt = rw (add-one i, drop-map (λ n. n.now) i ns, drop-map (λ n. n.now) (suc i) ns, drop-cons ns i d lt) refl
 
-module _ (ns : List (Bor (List ℕ))) (r : Record) (i : ℕ) (d : Bor (List ℕ)) (x n : List ℕ) (lt : i < length ns) (at : Some x ≡ field_at r i) (is : n ≡ (get_or ns i d).now) where
+module _ (ns : List (Bor (List ℕ))) (r : Record) (i : ℕ) (d : Bor (List ℕ)) (x n : List ℕ) (lt : i < length ns) (at : Some x ≡ field_at r i)
+    (is : n ≡ (get_or ns i d).now) where
   here : same_record (drop i (texts ns)) (drop i r) ≡ same_record (texts ns) r
       → (bytes_eq n x && same_record (drop (i + 1) (texts ns)) (drop (i + 1) r)) ≡ same_record (texts ns) r
   here so_far = rw (split r i x at, name_split ns i d lt, ← is) at so_far

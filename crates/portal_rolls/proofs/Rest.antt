@@ -27,7 +27,8 @@ read_shrinks cfg s fields field [] q e =
     let p : (fields ++ (field ∷ []), st.StartRecord, []) ≡ q = ends (ends_at_end s) _ q e in
     inr (refl, sym (ap (λ (r : Read). r.1) p), sym (ap (λ (r : Read). r.2) p))
 read_shrinks cfg s fields field (c ∷ rest) q e =
-    go (is_end (step cfg s c).1) (λ h. read_shrinks cfg (step cfg s c).0 (fields_after (step cfg s c).1 fields field) (field_after (step cfg s c).1 c field) rest q h) e
+    go (is_end (step cfg s c).1) (λ h. read_shrinks cfg (step cfg s c).0 (fields_after (step cfg s c).1 fields field)
+    (field_after (step cfg s c).1 c field) rest q h) e
   where
     next : Option Read
     next = next_record cfg (step cfg s c).0 (fields_after (step cfg s c).1 fields field) (field_after (step cfg s c).1 c field) rest
@@ -79,19 +80,23 @@ rest_is_next s xs = rw (add-one (length xs)) (go (next_record default_config s [
     go None e = refl
     go (Some q) e =
         elim (read_shrinks default_config s [] [] xs q e) [
-          | inl lt ↦ ap (λ (rows : List Record). q.0 ∷ rows) (same_records default_config (length xs) (length q.2 + 1) q.1 q.2 lt (omega arith))
-          | inr end ↦ ap (λ (rows : List Record). q.0 ∷ rows) (rw (end.1, end.2) (nothing_left default_config (length xs) ∙ sym (nothing_left default_config 1)))
+          | inl lt ↦ ap (λ (rows : List Record). q.0 ∷ rows)
+              (same_records default_config (length xs) (length q.2 + 1) q.1 q.2 lt (omega arith))
+          | inr end ↦ ap (λ (rows : List Record). q.0 ∷ rows)
+              (rw (end.1, end.2) (nothing_left default_config (length xs) ∙ sym (nothing_left default_config 1)))
         ]
 
 abbrev known : Bor (List ℕ) → Option (List ℕ)
 known s = Some s.now
 
 took : (o : Option Read) (rows : List Record) (found : Bool) (fields : Record) (rdr : Reader (Bor (List ℕ))) (z : List ℕ)
-    → rows ≡ records_next rest_of o → source_of known rdr ≡ Some z → NextIs o found fields (reader_state rdr) z → TakesRecord rows found fields rdr
+    → rows ≡ records_next rest_of o → source_of known rdr ≡ Some z → NextIs o found fields (reader_state rdr) z
+    → TakesRecord rows found fields rdr
 took None rows found fields rdr z e source r = rw e r
 took (Some p) rows found fields rdr z e source r = search (rules, ap₂)
 
-took_known : (s : State) (xs : List ℕ) (rows : List Record) (found : Bool) (fields : Record) (rdr : Reader (Bor (List ℕ))) (k : Option (List ℕ))
+took_known : (s : State) (xs : List ℕ) (rows : List Record) (found : Bool) (fields : Record) (rdr : Reader (Bor (List ℕ)))
+    (k : Option (List ℕ))
     → rows ≡ records_next rest_of (next_record default_config s [] [] xs) → source_of known rdr ≡ k
     → ReadsNext default_config s (Some xs) k found fields (reader_state rdr) → TakesRecord rows found fields rdr
 took_known s xs rows found fields rdr None e source r = absurd r

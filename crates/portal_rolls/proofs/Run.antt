@@ -16,7 +16,8 @@ module _ {X : Type 0} (format : Format X) where
   lines_from number rows = filter_map result_ok (map (reading format) (enumerate_from number rows))
 
 -- the lines so far, and what the records say that are left, make the whole
-pub record Progress {X : Type 0} (format : Format X) (rows : List Record) (number : ℕ) (rdr : Reader (Bor (List ℕ))) (lines : List X) : Type 0 where
+pub record Progress {X : Type 0} (format : Format X) (rows : List Record) (number : ℕ) (rdr : Reader (Bor (List ℕ)))
+    (lines : List X) : Type 0 where
   pub left : List Record
   pub has : Has rdr left
   pub so_far : first_or (faults_from format number left) (lines ++ lines_from format number left) ≡ lines_of format rows
@@ -24,7 +25,8 @@ pub record Progress {X : Type 0} (format : Format X) (rows : List Record) (numbe
 -- a line more, and a fault
 module _ {X : Type 0} (faults : List RollFault) (lines later : List X) where
   one_line : (read : Result X RollFault) (l : X) → read ≡ Ok l
-      → first_or (cons_option (result_err read) faults) (lines ++ cons_option (result_ok read) later) ≡ first_or faults ((lines ++ l ∷ []) ++ later)
+      → first_or (cons_option (result_err read) faults) (lines ++ cons_option (result_ok read) later)
+      ≡ first_or faults ((lines ++ l ∷ []) ++ later)
   one_line read l e = rw e (ap (first_or faults) (sym (append_assoc lines (l ∷ []) later)))
 
   one_fault : (read : Result X RollFault) (e : RollFault) → Fails e read
@@ -67,45 +69,55 @@ module _ {X : Type 0} (format : Format X) where
   next : (number : ℕ) (lines : List X) (left : List Record) (fields : Record) (rdr : Reader (Bor (List ℕ)))
       → TakesRecord left true fields rdr
       → (more : List Record) × Has rdr more
-      × (first_or (cons_option (result_err (reading format (number, fields))) (faults_from format (number + 1) more)) (lines ++ cons_option (result_ok (reading format (number, fields))) (lines_from format (number + 1) more))
+      × (first_or (cons_option (result_err (reading format (number, fields))) (faults_from format (number + 1) more))
+      (lines ++ cons_option (result_ok (reading format (number, fields))) (lines_from format (number + 1) more))
       ≡ first_or (faults_from format number left) (lines ++ lines_from format number left))
   next number lines [] fields rdr h = absurd (cc h)
   next number lines (r ∷ left) fields rdr h = (left, h.2, rw h.1 refl)
 
   -- one more line
-  pub goes_on : (rows : List Record) (number : ℕ) (old new : Reader (Bor (List ℕ))) (lines : List X) (fields : Record) (l : X) (p : Progress format rows number old lines)
+  pub goes_on : (rows : List Record) (number : ℕ) (old new : Reader (Bor (List ℕ))) (lines : List X) (fields : Record) (l : X)
+      (p : Progress format rows number old lines)
       → number ≤ format.limit
-      → ((left : List Record) → Has old left → TakesRecord left true fields new) → line_of format number fields ≡ Ok l → Progress format rows (number + 1) new (lines ++ l ∷ [])
+      → ((left : List Record) → Has old left → TakesRecord left true fields new) → line_of format number fields ≡ Ok l
+      → Progress format rows (number + 1) new (lines ++ l ∷ [])
   goes_on rows number old new lines fields l p le took read =
       let n = next number lines p.left fields new (took p.left p.has) in
       record {
         left = n.0;
         has = n.1;
-        so_far = sym (one_line (faults_from format (number + 1) n.0) lines (lines_from format (number + 1) n.0) (reading format (number, fields)) l (within number fields le ∙ read)) ∙ n.2 ∙ p.so_far;
+        so_far = sym (one_line (faults_from format (number + 1) n.0) lines (lines_from format (number + 1) n.0)
+            (reading format (number, fields)) l (within number fields le ∙ read)) ∙ n.2 ∙ p.so_far;
       }
 
   -- a record that says no line is the first fault
-  ends : (rows : List Record) (number : ℕ) (old new : Reader (Bor (List ℕ))) (lines : List X) (fields : Record) (e : RollFault) (p : Progress format rows number old lines)
-      → ((left : List Record) → Has old left → TakesRecord left true fields new) → Fails e (reading format (number, fields)) → Fails e (lines_of format rows)
+  ends : (rows : List Record) (number : ℕ) (old new : Reader (Bor (List ℕ))) (lines : List X) (fields : Record) (e : RollFault)
+      (p : Progress format rows number old lines)
+      → ((left : List Record) → Has old left → TakesRecord left true fields new) → Fails e (reading format (number, fields))
+      → Fails e (lines_of format rows)
   ends rows number old new lines fields e p took read =
       let n = next number lines p.left fields new (took p.left p.has) in
       subst (λ (x : Result (List X) RollFault). Fails e x) (n.2 ∙ p.so_far)
       (one_fault (faults_from format (number + 1) n.0) lines (lines_from format (number + 1) n.0) (reading format (number, fields)) e read)
 
-  pub stops : (rows : List Record) (number : ℕ) (old new : Reader (Bor (List ℕ))) (lines : List X) (fields : Record) (e : RollFault) (p : Progress format rows number old lines)
+  pub stops : (rows : List Record) (number : ℕ) (old new : Reader (Bor (List ℕ))) (lines : List X) (fields : Record) (e : RollFault)
+      (p : Progress format rows number old lines)
       → number ≤ format.limit
-      → ((left : List Record) → Has old left → TakesRecord left true fields new) → Fails e (line_of format number fields) → Fails e (lines_of format rows)
+      → ((left : List Record) → Has old left → TakesRecord left true fields new) → Fails e (line_of format number fields)
+      → Fails e (lines_of format rows)
   stops rows number old new lines fields e p le took read =
       ends rows number old new lines fields e p took (subst (λ (x : Result X RollFault). Fails e x) (sym (within number fields le)) read)
 
   -- a record is left after the last that may be there
-  pub too_many : (rows : List Record) (number : ℕ) (old new : Reader (Bor (List ℕ))) (lines : List X) (fields : Record) (p : Progress format rows number old lines)
+  pub too_many : (rows : List Record) (number : ℕ) (old new : Reader (Bor (List ℕ))) (lines : List X) (fields : Record)
+      (p : Progress format rows number old lines)
       → format.limit < number
       → ((left : List Record) → Has old left → TakesRecord left true fields new) → lines_of format rows ≡ Err fault.TooMany
   too_many rows number old new lines fields p lt took = ends rows number old new lines fields fault.TooMany p took (past number fields lt)
 
   -- every record was read
-  pub is_whole : (rows : List Record) (number : ℕ) (old new : Reader (Bor (List ℕ))) (lines : List X) (fields : Record) (p : Progress format rows number old lines)
+  pub is_whole : (rows : List Record) (number : ℕ) (old new : Reader (Bor (List ℕ))) (lines : List X) (fields : Record)
+      (p : Progress format rows number old lines)
       → ((left : List Record) → Has old left → TakesRecord left false fields new) → lines_of format rows ≡ Ok lines
   is_whole rows number old new lines fields p took = none_left p.left p.so_far (took p.left p.has)
     where

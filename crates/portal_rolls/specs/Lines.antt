@@ -3,12 +3,13 @@ use Rattle.std.specs.Prelude.{◌+◌, ◌*◌, ◌-◌, ◌==◌, ◌&&◌, ℕ
 use Rattle.std.specs.Prelude.{Result, Ok, Err, nat_le, if◌then◌else◌, fold, codes}
 use Rattle.std.specs.Char.{is_ascii_digit}
 use Rattle.std.specs.List.{list_all, position_from, filter_map}
+use Rattle.spa_rows.specs.Limits.{most_lecturers, most_projects, most_students, most_places}
 use Rattle.spa_rows.specs.Lines.{Text, LecturerWithList, ProjectWithLecturer, StudentWithList, Pair, is_key}
 use Rattle.portal_rolls.specs.declared.fault.RollFault.{RollFault}
 use Rattle.portal_rolls.specs.declared.fault.RollFault.TheVariants as fault
 use Rattle.portal_rolls.specs.Reading.{Record, records_of, Format, unless, lines_of}
-use Rattle.portal_rolls.specs.declared.line.Line.{Line}
-use Rattle.portal_rolls.specs.declared.line.Line.TheVariants as variant
+use Rattle.portal_rolls.specs.declared.line.FileLine.{FileLine}
+use Rattle.portal_rolls.specs.declared.line.FileLine.TheVariants as variant
 use Rattle.portal_rolls.specs.declared.instance.Mark.{Mark}
 use Rattle.portal_rolls.specs.declared.instance.Mark.TheVariants as mark
 use Rattle.portal_rules.specs.Words.{is_code, is_name}
@@ -23,9 +24,9 @@ is_number text = nat_le 1 (length text) && (nat_le (length text) 7 && list_all i
 abbrev pub digits_value : Text → ℕ
 digits_value text = fold (λ n d. n * 10 + (d - 48)) 0 text
 
--- a capacity on a roll is 1 to 200
+-- a capacity on a roll is a number in the range of capacities
 abbrev pub is_capacity : Text → Bool
-is_capacity text = is_number text && (nat_le 1 (digits_value text) && nat_le (digits_value text) 200)
+is_capacity text = is_number text && (nat_le 1 (digits_value text) && nat_le (digits_value text) most_places)
 
 -- the line, or the fault of the bad column
 abbrev pub unless_bad : {X : Type 0} → ℕ → Option ℕ → X → Result X RollFault
@@ -58,7 +59,7 @@ mark_of (b ∷ []) = if b == 76 then Some mark.Lecturer else if b == 80 then Som
 mark_of _ = None
 
 -- the line of a record by its kind and the three fields after it
-abbrev pub line_at : Option Mark → ℕ → Text → Text → Text → Result Line RollFault
+abbrev pub line_at : Option Mark → ℕ → Text → Text → Text → Result FileLine RollFault
 line_at None row key value list = Err (fault.BadField row 1)
 line_at (Some mark.Lecturer) row key value list =
     unless (is_number value) (fault.BadField row 3)
@@ -73,32 +74,32 @@ line_at (Some mark.Pair) row key value list =
     unless (length list == 0) (fault.BadField row 4)
     (Ok (variant.Pair (record { row = row; student = key; project = value })))
 
-abbrev pub says : ℕ → Record → Result Line RollFault
+abbrev pub says : ℕ → Record → Result FileLine RollFault
 says row (kind ∷ key ∷ value ∷ list ∷ []) = line_at (mark_of kind) row key value list
 says row _ = Err (fault.FieldCount row)
 
-abbrev pub instance_file : Format Line
+abbrev pub instance_file : Format FileLine
 instance_file = record {
   header = codes "kind" ∷ codes "key" ∷ codes "value" ∷ codes "list" ∷ [];
-  limit = 5300;
+  limit = most_lecturers + most_projects + 2 * most_students;
   says = says;
 }
 
 -- the lines of each kind
 
-abbrev pub as_lecturer : Line → Option LecturerWithList
+abbrev pub as_lecturer : FileLine → Option LecturerWithList
 as_lecturer (variant.Lecturer x) = Some x
 as_lecturer _ = None
 
-abbrev pub as_project : Line → Option ProjectWithLecturer
+abbrev pub as_project : FileLine → Option ProjectWithLecturer
 as_project (variant.Project x) = Some x
 as_project _ = None
 
-abbrev pub as_student : Line → Option StudentWithList
+abbrev pub as_student : FileLine → Option StudentWithList
 as_student (variant.Student x) = Some x
 as_student _ = None
 
-abbrev pub as_pair : Line → Option Pair
+abbrev pub as_pair : FileLine → Option Pair
 as_pair (variant.Pair x) = Some x
 as_pair _ = None
 
@@ -109,7 +110,7 @@ pub record File : Type 0 where
   pub students : List StudentWithList
   pub pairs : List Pair
 
-abbrev pub file_of : List Line → File
+abbrev pub file_of : List FileLine → File
 file_of lines = record {
   lecturers = filter_map as_lecturer lines;
   projects = filter_map as_project lines;
@@ -118,7 +119,7 @@ file_of lines = record {
 }
 
 -- the lines by kind, or the fault
-abbrev pub as_file : Result (List Line) RollFault → Result File RollFault
+abbrev pub as_file : Result (List FileLine) RollFault → Result File RollFault
 as_file (Ok lines) = Ok (file_of lines)
 as_file (Err e) = Err e
 
@@ -146,21 +147,21 @@ student row _ = Err (fault.FieldCount row)
 abbrev pub lecturer_format : Format LecturerRow
 lecturer_format = record {
   header = codes "id" ∷ codes "name" ∷ codes "code" ∷ codes "capacity" ∷ [];
-  limit = 300;
+  limit = most_lecturers;
   says = lecturer;
 }
 
 abbrev pub project_format : Format ProjectRow
 project_format = record {
   header = codes "id" ∷ codes "lecturer" ∷ codes "title" ∷ codes "capacity" ∷ [];
-  limit = 1000;
+  limit = most_projects;
   says = project;
 }
 
 abbrev pub student_format : Format StudentRow
 student_format = record {
   header = codes "id" ∷ codes "name" ∷ codes "code" ∷ [];
-  limit = 2000;
+  limit = most_students;
   says = student;
 }
 

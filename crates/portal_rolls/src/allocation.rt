@@ -1,17 +1,18 @@
 //! Writes the result as CSV.
 
 ghost use Rattle.std.specs.Prelude.{◌≡◌, ◌++◌, ℕ, List, map, IfOk, OnOk};
-ghost use Rattle.portal_rules.specs.Bodies as sheet;
+ghost use Rattle.portal_rules.specs.Bodies as bodies;
 ghost use Rattle.portal_rolls.specs.inner.Written.{HasWritten};
 
 use csv::Writer;
-use portal_rules::{OfficeView, Placings, StudentRow};
+use portal_rules::index::Placings;
+use portal_rules::{OfficeView, StudentRow};
 use std::alloc::{AllocError, Global};
 
 /// Writes one CSV record of five fields.
 fn put_record(writer: &mut Writer<Vec<u8>>, fields: &[&[u8]; 5]) -> Result<(), AllocError>
     ensures { OnOk result ((text : List ℕ) → HasWritten writer.old text
-        → HasWritten writer.new (text ++ sheet.csv_record (map (λ f. f.now) fields.now))) }
+        → HasWritten writer.new (text ++ bodies.csv_record (map (λ f. f.now) fields.now))) }
 {
     writer
         .write_fields(fields.as_slice())
@@ -25,8 +26,8 @@ fn put_student(
     student: &StudentRow,
 ) -> Result<(), AllocError>
     ensures { OnOk result ((text : List ℕ) → HasWritten writer.old text
-        → HasWritten writer.new (text ++ sheet.csv_record
-        (sheet.student_fields placings.now student.now))) }
+        → HasWritten writer.new (text ++ bodies.csv_record
+        (bodies.student_fields placings.now student.now))) }
 {
     let key = student.key.as_bytes();
     let name = student.name.as_bytes();
@@ -58,7 +59,7 @@ fn text_of(writer: Writer<Vec<u8>>) -> Result<Vec<u8>, AllocError>
 /// Returns the result as CSV: a header, then a record for each student, by key. An error means that
 /// memory ran out.
 pub fn write_allocation(alloc: Global, view: &OfficeView) -> Result<Vec<u8>, AllocError>
-    ensures { IfOk result (λ text. text.items ≡ sheet.csv_text view.now) }
+    ensures { IfOk result (λ text. text.items ≡ bodies.csv_text view.now) }
 {
     let placings = Placings::of(alloc, view)?;
     let mut writer = Writer::from_writer(Vec::new(alloc));

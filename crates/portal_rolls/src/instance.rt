@@ -9,9 +9,10 @@ ghost use Rattle.portal_rolls.specs.inner.AsRead as form;
 
 use crate::fault::RollFault;
 use crate::fields::{capacity_of, four, list_of};
-use crate::line::{File, Line};
-use crate::reading::{Kind, read_text};
+use crate::line::{File, FileLine};
+use crate::reading::{FromRecord, read_text};
 use csv::ByteRecord;
+use spa_rows::limits::{MOST_LECTURERS, MOST_PROJECTS, MOST_STUDENTS};
 use spa_rows::{InstanceRows, LecturerLine, PairLine, ProjectLine, StudentLine};
 use std::alloc::Global;
 
@@ -45,7 +46,7 @@ fn line_at(
     key: &[u8],
     value: &[u8],
     list: &[u8],
-) -> Result<Line, RollFault>
+) -> Result<FileLine, RollFault>
     ensures { Gives form.same result (spec.line_at (Some mark) number key.now value.now list.now) }
 {
     let key = Vec::from_slice(alloc, key)?;
@@ -53,7 +54,7 @@ fn line_at(
         Mark::Lecturer => {
             let capacity = capacity_of(value).ok_or(RollFault::BadField(number, 3))?;
             let list = list_of(alloc, list)?;
-            Ok(Line::Lecturer(LecturerLine {
+            Ok(FileLine::Lecturer(LecturerLine {
                 row: number,
                 key,
                 capacity,
@@ -63,7 +64,7 @@ fn line_at(
         Mark::Project => {
             let capacity = capacity_of(value).ok_or(RollFault::BadField(number, 3))?;
             let lecturer = Vec::from_slice(alloc, list)?;
-            Ok(Line::Project(ProjectLine {
+            Ok(FileLine::Project(ProjectLine {
                 row: number,
                 key,
                 capacity,
@@ -75,7 +76,7 @@ fn line_at(
                 return Err(RollFault::BadField(number, 3));
             }
             let list = list_of(alloc, list)?;
-            Ok(Line::Student(StudentLine {
+            Ok(FileLine::Student(StudentLine {
                 row: number,
                 key,
                 list,
@@ -86,7 +87,7 @@ fn line_at(
                 return Err(RollFault::BadField(number, 4));
             }
             let project = Vec::from_slice(alloc, value)?;
-            Ok(Line::Pair(PairLine {
+            Ok(FileLine::Pair(PairLine {
                 row: number,
                 student: key,
                 project,
@@ -95,12 +96,7 @@ fn line_at(
     }
 }
 
-/// Instance files, as a `Kind`.
-struct InstanceFile;
-
-impl Kind for InstanceFile {
-    type Line = Line;
-
+impl FromRecord for FileLine {
     ghost format = { spec.instance_file };
 
     fn names() -> &'static [&'static str] {
@@ -108,10 +104,10 @@ impl Kind for InstanceFile {
     }
 
     fn limit() -> u32 {
-        5300
+        (MOST_LECTURERS + MOST_PROJECTS + 2 * MOST_STUDENTS) as u32
     }
 
-    fn says(alloc: Global, number: u32, row: &ByteRecord) -> Result<Line, RollFault> {
+    fn says(alloc: Global, number: u32, row: &ByteRecord) -> Result<FileLine, RollFault> {
         let (kind, key, value, list) = four(row);
         let mark = mark_of(kind).ok_or(RollFault::BadField(number, 1))?;
         line_at(alloc, mark, number, key, value, list)
@@ -119,7 +115,7 @@ impl Kind for InstanceFile {
 }
 
 /// Groups the lines of an instance file by kind.
-fn file_of(alloc: Global, lines: Vec<Line>) -> Result<File, RollFault>
+fn file_of(alloc: Global, lines: Vec<FileLine>) -> Result<File, RollFault>
     ensures ok { IfOk result (λ file. form.file file ≡ spec.file_of lines.items) }
     ensures fault { IfErr result (λ e. e ≡ RollFault.Memory) }
 {
@@ -138,7 +134,7 @@ fn file_of(alloc: Global, lines: Vec<Line>) -> Result<File, RollFault>
 pub fn read_instance(alloc: Global, text: &[u8]) -> Result<(InstanceRows, Vec<PairLine>), RollFault>
     ensures { Gives view.parts result (spec.rows text.now) }
 {
-    match read_text::<InstanceFile>(alloc, text) {
+    match read_text::<FileLine>(alloc, text) {
         Ok(lines) => Ok(file_of(alloc, lines)?.into_parts()),
         Err(fault) => Err(fault),
     }

@@ -4,7 +4,7 @@ ghost use Rattle.std.specs.Prelude.{◌≡◌, ◌++◌, ◌∷◌, [], List, On
 ghost use Rattle.portal_rolls.specs.Lines as spec;
 ghost use Rattle.portal_rolls.specs.Views as view;
 ghost use Rattle.portal_rolls.specs.inner.AsRead as form;
-ghost use Rattle.portal_rolls.specs.declared.line.Line as declared;
+ghost use Rattle.portal_rolls.specs.declared.line.FileLine as declared;
 
 use crate::fault::RollFault;
 use spa_rows::{InstanceRows, LecturerLine, PairLine, ProjectLine, StudentLine};
@@ -12,7 +12,7 @@ use std::alloc::Global;
 
 /// A line of an instance file, of any kind.
 #[derive(Drop)]
-pub(crate) enum Line {
+pub(crate) enum FileLine {
     Lecturer(LecturerLine),
     Project(ProjectLine),
     Student(StudentLine),
@@ -42,17 +42,17 @@ impl File {
     }
 
     /// Appends a line to the lines of its kind.
-    pub(crate) fn put(&mut self, line: Line) -> Result<(), RollFault>
-        ensures ok { OnOk result ((lines : List declared.Line)
+    pub(crate) fn put(&mut self, line: FileLine) -> Result<(), RollFault>
+        ensures ok { OnOk result ((lines : List declared.FileLine)
             → form.file self.old ≡ spec.file_of lines
             → form.file self.new ≡ spec.file_of (lines ++ line ∷ [])) }
         ensures fault { IfErr result (λ e. e ≡ RollFault.Memory) }
     {
         match line {
-            Line::Lecturer(x) => self.lecturers.push(x)?,
-            Line::Project(x) => self.projects.push(x)?,
-            Line::Student(x) => self.students.push(x)?,
-            Line::Pair(x) => self.pairs.push(x)?,
+            FileLine::Lecturer(x) => self.lecturers.push(x)?,
+            FileLine::Project(x) => self.projects.push(x)?,
+            FileLine::Student(x) => self.students.push(x)?,
+            FileLine::Pair(x) => self.pairs.push(x)?,
         }
         Ok(())
     }

@@ -14,14 +14,11 @@ use crate::fields::{has_names, is_all_text};
 use csv::{ByteRecord, ErrorKind, Reader, ReaderBuilder};
 use std::alloc::Global;
 
-/// A kind of file: the names of its columns, the greatest number of records, and how a record is
-/// parsed.
-pub(crate) trait Kind {
-    /// The parsed form of one record.
-    type Line: Drop;
-
+/// A row that a record of a kind of file becomes: the names of the file's columns, the greatest
+/// number of records, and how a record is parsed.
+pub(crate) trait FromRecord: Drop {
     /// The definition of this kind of file.
-    ghost format: { Format Self.Line };
+    ghost format: { Format Self };
 
     /// Returns the names of the columns of this kind of CSV file.
     fn names() -> &'static [&'static str]
@@ -33,22 +30,22 @@ pub(crate) trait Kind {
         ensures small { result < 10000 };
 
     /// Parses a record of this kind of CSV file; it has the right number of fields, all UTF-8.
-    fn says(alloc: Global, number: u32, row: &ByteRecord) -> Result<Self::Line, RollFault>
+    fn says(alloc: Global, number: u32, row: &ByteRecord) -> Result<Self, RollFault>
         requires { length (fields_of row.now) ≡ length format.header }
         ensures { Gives form.same result (format.says number (fields_of row.now)) };
 }
 
 /// Checks that a record has the right number of fields, all UTF-8, then parses it.
-fn parse_line<K: Kind>(alloc: Global, number: u32, row: &ByteRecord) -> Result<K::Line, RollFault>
-    ensures { Gives form.same result (line_of K.format number (fields_of row.now)) }
+fn parse_line<T: FromRecord>(alloc: Global, number: u32, row: &ByteRecord) -> Result<T, RollFault>
+    ensures { Gives form.same result (line_of T.format number (fields_of row.now)) }
 {
-    if row.len() != K::names().len() {
+    if row.len() != T::names().len() {
         return Err(RollFault::FieldCount(number));
     }
     if !is_all_text(row) {
         return Err(RollFault::NotText(number));
     }
-    K::says(alloc, number, row)
+    T::says(alloc, number, row)
 }
 
 /// Creates a reader of the records of a CSV text.
@@ -80,27 +77,27 @@ fn take_record(rdr: &mut Reader<&[u8]>, row: &mut ByteRecord) -> Result<bool, Ro
 }
 
 /// Checks that the next record of a reader is the header, then parses all later ones.
-fn read_lines<K: Kind>(
+fn read_lines<T: FromRecord>(
     alloc: Global,
     rdr: &mut Reader<&[u8]>,
     row: &mut ByteRecord,
-) -> Result<Vec<K::Line>, RollFault>
+) -> Result<Vec<T>, RollFault>
     requires { IsSetUp rdr.old }
     ensures { (rows : List Record) → Has rdr.old rows
-        → Gives view.items result (lines_of K.format rows) }
+        → Gives view.items result (lines_of T.format rows) }
 {
     if !take_record(rdr, row)? {
         return Err(RollFault::NoHeader);
     }
-    if !has_names(row, K::names()) {
+    if !has_names(row, T::names()) {
         return Err(RollFault::BadHeader);
     }
     let mut lines = Vec::new(alloc);
-    for number in 1..K::limit() + 1 {
+    for number in 1..T::limit() + 1 {
         if !take_record(rdr, row)? {
             return Ok(lines);
         }
-        lines.push(parse_line::<K>(alloc, number, row)?)?;
+        lines.push(parse_line::<T>(alloc, number, row)?)?;
     }
     if take_record(rdr, row)? {
         return Err(RollFault::TooMany);
@@ -109,10 +106,10 @@ fn read_lines<K: Kind>(
 }
 
 /// Parses a whole CSV text of any kind, or returns its first fault as an error.
-pub(crate) fn read_text<K: Kind>(alloc: Global, text: &[u8]) -> Result<Vec<K::Line>, RollFault>
-    ensures { Gives view.items result (lines_of K.format (records_of text.now)) }
+pub(crate) fn read_text<T: FromRecord>(alloc: Global, text: &[u8]) -> Result<Vec<T>, RollFault>
+    ensures { Gives view.items result (lines_of T.format (records_of text.now)) }
 {
     let mut rdr = reader_of(alloc, text);
     let mut row = ByteRecord::new(alloc);
-    read_lines::<K>(alloc, &mut rdr, &mut row)
+    read_lines::<T>(alloc, &mut rdr, &mut row)
 }

@@ -10,18 +10,13 @@ ghost use Rattle.portal_rolls.specs.Views as view;
 
 use crate::fault::RollFault;
 use crate::fields::{capacity_at, code_at, four, key_at, name_at, three};
-use crate::reading::{Kind, read_text};
+use crate::reading::{FromRecord, read_text};
 use csv::ByteRecord;
 use portal_rules::{LecturerRow, ProjectRow, StudentRow};
 use spa_rows::limits::{MOST_LECTURERS, MOST_PROJECTS, MOST_STUDENTS};
 use std::alloc::Global;
 
-/// The roll of lecturers.
-struct LecturerRoll;
-
-impl Kind for LecturerRoll {
-    type Line = LecturerRow;
-
+impl FromRecord for LecturerRow {
     ghost format = { spec.lecturer_format };
 
     fn names() -> &'static [&'static str] {
@@ -43,12 +38,7 @@ impl Kind for LecturerRoll {
     }
 }
 
-/// The roll of projects.
-struct ProjectRoll;
-
-impl Kind for ProjectRoll {
-    type Line = ProjectRow;
-
+impl FromRecord for ProjectRow {
     ghost format = { spec.project_format };
 
     fn names() -> &'static [&'static str] {
@@ -70,12 +60,7 @@ impl Kind for ProjectRoll {
     }
 }
 
-/// The roll of students.
-struct StudentRoll;
-
-impl Kind for StudentRoll {
-    type Line = StudentRow;
-
+impl FromRecord for StudentRow {
     ghost format = { spec.student_format };
 
     fn names() -> &'static [&'static str] {
@@ -105,7 +90,7 @@ pub fn read_lecturers(alloc: Global, text: &[u8]) -> Result<Vec<LecturerRow>, Ro
     ensures read { Gives view.items result (spec.lecturers text.now) }
     ensures formed { IfOk result (λ rows. AllByRecursion IsLecturer rows.items) }
 {
-    read_text::<LecturerRoll>(alloc, text)
+    read_text::<LecturerRow>(alloc, text)
 }
 
 /// Reads the rows of a roll of projects from CSV. Each field then has the form of its column.
@@ -117,7 +102,7 @@ pub fn read_projects(alloc: Global, text: &[u8]) -> Result<Vec<ProjectRow>, Roll
     ensures read { Gives view.items result (spec.projects text.now) }
     ensures formed { IfOk result (λ rows. AllByRecursion IsProject rows.items) }
 {
-    read_text::<ProjectRoll>(alloc, text)
+    read_text::<ProjectRow>(alloc, text)
 }
 
 /// Reads the rows of a roll of students from CSV. Each field then has the form of its column.
@@ -129,5 +114,5 @@ pub fn read_students(alloc: Global, text: &[u8]) -> Result<Vec<StudentRow>, Roll
     ensures read { Gives view.items result (spec.students text.now) }
     ensures formed { IfOk result (λ rows. AllByRecursion IsStudent rows.items) }
 {
-    read_text::<StudentRoll>(alloc, text)
+    read_text::<StudentRow>(alloc, text)
 }

@@ -27,8 +27,10 @@ re_chosen k list x = x
 pub caller_chosen : (w : World) (k : Key) (list : List Key) (c : Key)
     → caller (changed w (Choices k list)) c ≡ re_chosen k list (caller w c)
 caller_chosen w k list c =
-    let found : find (λ (s : rows.Student). equals s.row.code c) (map (with_choice k list) w.students) ≡ option_map (with_choice k list) (student_with w c)
-    = find_map (with_choice k list) (λ s. equals s.row.code c) (λ s. equals s.row.code c) (λ s. ap (λ r. equals r.code c) (choice_row k list s)) w.students in
+    let found : find (λ (s : rows.Student). equals s.row.code c) (map (with_choice k list) w.students)
+    ≡ option_map (with_choice k list) (student_with w c)
+    = find_map (with_choice k list) (λ s. equals s.row.code c) (λ s. equals s.row.code c)
+    (λ s. ap (λ r. equals r.code c) (choice_row k list s)) w.students in
     grind (arith, found)
 
 pub caller_ranked : (w : World) (k : Key) (list : List Key) (c : Key)
@@ -39,7 +41,8 @@ caller_ranked w k list c = caller_kept (with_ranking k list) (ranking_row k list
 pub catalogue_ranked : (w : World) (k : Key) (list : List Key) → catalogue (changed w (Ranks k list)) ≡ catalogue w
 catalogue_ranked w k list =
     (λ i. listings (play_ranked w k list i).lecturers (play_ranked w k list i).projects)
-    ∙ λ i. filter_map (λ p. option_map (listing_with p) (names_kept (with_ranking k list) (ranking_row k list) (in_play w).lecturers p.lecturer i)) (in_play w).projects
+    ∙ λ i. filter_map (λ p. option_map (listing_with p)
+    (names_kept (with_ranking k list) (ranking_row k list) (in_play w).lecturers p.lecturer i)) (in_play w).projects
 
 -- nor does a student's list
 pub catalogue_chosen : (w : World) (k : Key) (list : List Key) → catalogue (changed w (Choices k list)) ≡ catalogue w
@@ -57,14 +60,20 @@ catalogue_joined w rs = elim w.round as (λ r. catalogue (in_first r (with_stude
 
 -- the caller's own list
 
-pub view_chosen : (w : World) (c : Key) (s : rows.Student) (list : List Key) → caller w c ≡ StudentCaller s → view (changed w (Choices s.row.key list)) c ≡ Student (record (student_sees w s) { choices = list })
+pub view_chosen : (w : World) (c : Key) (s : rows.Student) (list : List Key) → caller w c ≡ StudentCaller s
+    → view (changed w (Choices s.row.key list)) c ≡ Student (record (student_sees w s) { choices = list })
 view_chosen w c s list e =
-    ap (sight_of (changed w (Choices s.row.key list))) (caller_chosen w s.row.key list c ∙ ap (re_chosen s.row.key list) e ∙ ap (λ b. StudentCaller (cond b (record s { choice = list }) s)) (is_own s.row.key))
+    ap (sight_of (changed w (Choices s.row.key list)))
+    (caller_chosen w s.row.key list c ∙ ap (re_chosen s.row.key list) e
+    ∙ ap (λ b. StudentCaller (cond b (record s { choice = list }) s)) (is_own s.row.key))
     ∙ λ i. Student (record (student_sees w s) { catalogue = catalogue_chosen w s.row.key list i; choices = list })
 
-pub view_ranked : (w : World) (c : Key) (l : rows.Lecturer) (list : List Key) → caller w c ≡ LecturerCaller l → view (changed w (Ranks l.row.key list)) c ≡ Lecturer (record (lecturer_sees w l) { ranking = Some list })
+pub view_ranked : (w : World) (c : Key) (l : rows.Lecturer) (list : List Key) → caller w c ≡ LecturerCaller l
+    → view (changed w (Ranks l.row.key list)) c ≡ Lecturer (record (lecturer_sees w l) { ranking = Some list })
 view_ranked w c l list e =
-    ap (sight_of (changed w (Ranks l.row.key list))) (caller_ranked w l.row.key list c ∙ ap (re_called (with_ranking l.row.key list)) e ∙ ap (λ b. LecturerCaller (cond b (record l { ranking = Some list }) l)) (is_own l.row.key))
+    ap (sight_of (changed w (Ranks l.row.key list)))
+    (caller_ranked w l.row.key list c ∙ ap (re_called (with_ranking l.row.key list)) e
+    ∙ ap (λ b. LecturerCaller (cond b (record l { ranking = Some list }) l)) (is_own l.row.key))
     ∙ λ i. Lecturer (record (lecturer_sees w l) { catalogue = catalogue_ranked w l.row.key list i; ranking = Some list })
 
 -- after a call that is no Move and no Add, the caller sees what `own` says
@@ -79,13 +88,18 @@ module _ (w w' : World) (c : Key) where
       → Shows (sight_of w x) ask (decision (sight_of w x) ask)
   own_kept NoCaller e ask = λ calm. stays NoCaller e
   own_kept (StudentCaller s) e ask =
-      let own : (list : List Key) → w' ≡ changed w (Choices s.row.key list) → view w' c ≡ Student (record (student_sees w s) { choices = list }) = λ list done. ap (λ u. view u c) done ∙ view_chosen w c s list e in
+      let own : (list : List Key) → w' ≡ changed w (Choices s.row.key list)
+      → view w' c ≡ Student (record (student_sees w s) { choices = list }) = λ list done. ap (λ u. view u c) done
+      ∙ view_chosen w c s list e in
       grind (arith, stays (StudentCaller s) e, own)
   own_kept (LecturerCaller l) e ask =
-      let own : (list : List Key) → w' ≡ changed w (Ranks l.row.key list) → view w' c ≡ Lecturer (record (lecturer_sees w l) { ranking = Some list }) = λ list done. ap (λ u. view u c) done ∙ view_ranked w c l list e in
+      let own : (list : List Key) → w' ≡ changed w (Ranks l.row.key list)
+      → view w' c ≡ Lecturer (record (lecturer_sees w l) { ranking = Some list }) = λ list done. ap (λ u. view u c) done
+      ∙ view_ranked w c l list e in
       grind (arith, stays (LecturerCaller l) e, own)
   own_kept OfficeCaller e ask =
-      let own : w' ≡ changed w Fill → view w' c ≡ Office (record (office_sees w) { still_to_rank = [] }) = λ done. ap (λ u. view u c) done ∙ view_filled w c e in
+      let own : w' ≡ changed w Fill → view w' c ≡ Office (record (office_sees w) { still_to_rank = [] }) = λ done. ap (λ u. view u c) done
+      ∙ view_filled w c e in
       grind (arith, stays OfficeCaller e, own)
 
 -- a Move and an Add call are no change of one's own list

@@ -23,9 +23,11 @@ has_alike code front as' bs k al =
     ∙ ap (λ b. has front k || b) (any_map (equals k) code as' ∙ al.tests (λ x. equals k (code x)) ∙ sym (any_map (equals k) code bs))
     ∙ sym (any_append (equals k) front (map code bs))
 
-module _ {X Y : Type 0} (roll : RollRules X) (row : Y → X) (make : X → Y) (own : (x : X) → row (make x) ≡ x) (Form : X → Type 0) (Kept : List Y → Type 0)
+module _ {X Y : Type 0} (roll : RollRules X) (row : Y → X) (make : X → Y) (own : (x : X) → row (make x) ≡ x) (Form : X → Type 0)
+    (Kept : List Y → Type 0)
     (bad_alike : (as' bs : List X) (r : X) → Alike as' bs → roll.is_bad as' r ≡ roll.is_bad bs r)
-    (one : (ys : List Y) (r : X) → Kept ys → Form r → has (map (λ y. roll.key (row y)) ys) (roll.key r) ≡ false → roll.is_bad (map row ys) r ≡ false → length ys + 1 ≤ roll.limit → Kept (put (λ y. roll.key (row y)) (make r) ys)) where
+    (one : (ys : List Y) (r : X) → Kept ys → Form r → has (map (λ y. roll.key (row y)) ys) (roll.key r) ≡ false
+    → roll.is_bad (map row ys) r ≡ false → length ys + 1 ≤ roll.limit → Kept (put (λ y. roll.key (row y)) (make r) ys)) where
   abbrev key : Y → Key
   key y = roll.key (row y)
 
@@ -57,17 +59,22 @@ module _ {X Y : Type 0} (roll : RollRules X) (row : Y → X) (make : X → Y) (o
       → Alike there (map row ys) → AllByRecursion Form rs → take_rows roll at there rs ≡ Took new same
       → Kept (put_all key (map make new) ys)
   taken [] at there ys new same kept al forms e = let none : [] ≡ new = cc in subst (λ l. Kept (put_all key (map make l) ys)) none kept
-  taken (r ∷ rs) at there ys new same kept al forms e = go (λ t zs n m k a f. taken rs (at + 1) t zs n m k a forms.1 f) (verdict roll at there r) refl
+  taken (r ∷ rs) at there ys new same kept al forms e =
+      go (λ t zs n m k a f. taken rs (at + 1) t zs n m k a forms.1 f) (verdict roll at there r) refl
     where
-      go : ((t : List X) (zs : List Y) (n : List X) (m : ℕ) → Kept zs → Alike t (map row zs) → take_rows roll (at + 1) t rs ≡ Took n m → Kept (put_all key (map make n) zs))
+      go : ((t : List X) (zs : List Y) (n : List X) (m : ℕ) → Kept zs → Alike t (map row zs) → take_rows roll (at + 1) t rs ≡ Took n m
+          → Kept (put_all key (map make n) zs))
           → (v : Verdict) → verdict roll at there r ≡ v → Kept (put_all key (map make new) ys)
-      go again (Rejected f) is = let clash : ◌≡◌ {A = Taken X} (Faulty f) (Took new same) = sym (next_row roll at there r rs (Rejected f) is) ∙ e in cc
+      go again (Rejected f) is = let clash : ◌≡◌ {A = Taken X} (Faulty f) (Took new same) =
+          sym (next_row roll at there r rs (Rejected f) is) ∙ e in cc
       go again Present is =
           let (m, rest) = took_present r (take_rows roll (at + 1) there rs) new same (sym (next_row roll at there r rs Present is) ∙ e) in
           again there ys new m kept al rest
       go again New is =
-          let (n, m, more, rest) = took_new r (take_rows roll (at + 1) (r ∷ there) rs) new same (sym (next_row roll at there r rs New is) ∙ e) in
+          let (n, m, more, rest) = took_new r (take_rows roll (at + 1) (r ∷ there) rs) new same
+          (sym (next_row roll at there r rs New is) ∙ e) in
           let (unknown, good, left) = is_fresh roll at (find (λ x. equals (roll.key x) (roll.key r)) there) there r is in
           subst (λ l. Kept (put_all key (map make l) ys)) (sym more)
           (again (r ∷ there) (put key (make r) ys) n m
-          (one ys r kept forms.0 (new_key there ys r al unknown) (sym (bad_alike there (map row ys) r al) ∙ good) (room there ys al left)) (alike_put there ys r al) rest)
+          (one ys r kept forms.0 (new_key there ys r al unknown) (sym (bad_alike there (map row ys) r al) ∙ good) (room there ys al left))
+          (alike_put there ys r al) rest)

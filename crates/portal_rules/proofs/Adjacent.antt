@@ -54,7 +54,9 @@ pub rows_sorted : {X : Type 0} (key : X → Key) (rows : List X) → Rise (map k
     → IsSortedBy (λ a b. is_lt (slice_cmp nat_cmp (key a) (key b))) rows
 rows_sorted key rows up k d low high =
     let size = length-map rows key in
-    let above = less (slice_cmp nat_cmp (get_or (map key rows) k []) (get_or (map key rows) (k + 1) [])) (sym (comes_before (map key rows) up k (k + 1) (omega arith) (omega (arith, size, high)))) in
+    let above = less (slice_cmp nat_cmp (get_or (map key rows) k []) (get_or (map key rows) (k + 1) []))
+    (sym (comes_before (map key rows) up k (k + 1) (omega arith) (omega (arith, size, high)))) in
     let here = get_or-map key rows k d [] (omega arith) in
     let next = get_or-map key rows (k + 1) d [] high in
-    ap is_lt (nat_list_cmp_total.antisymm (key (get_or rows (k + 1) d)) (key (get_or rows k d)) ∙ ap ordering_reverse (rw (here, next) at above))
+    ap is_lt (nat_list_cmp_total.antisymm (key (get_or rows (k + 1) d)) (key (get_or rows k d))
+    ∙ ap ordering_reverse (rw (here, next) at above))

@@ -62,15 +62,22 @@ out_not_in : (t : ProjectRow → Bool) (zs : List ProjectRow) → Rise (map proj
     → AllByRecursion (λ z. t z ≡ false → has (map project_key (filter t zs)) z.key ≡ false) zs
 out_not_in t [] rise = tt
 out_not_in t (z ∷ zs) rise =
-    let later : AllByRecursion (λ y. is_before (project_key z) (project_key y) ≡ true) zs = all_unmap (λ k. is_before (project_key z) k ≡ true) project_key zs rise.0 in
+    let later : AllByRecursion (λ y. is_before (project_key z) (project_key y) ≡ true) zs =
+    all_unmap (λ k. is_before (project_key z) k ≡ true) project_key zs rise.0 in
     let rest : AllByRecursion (λ y. t y ≡ false → has (map project_key (filter t zs)) y.key ≡ false) zs = out_not_in t zs rise.1 in (
-      (λ e. ap (λ b. has (map project_key (cond b (z ∷ filter t zs) (filter t zs))) z.key) e ∙ none_has z.key t zs (all_weaker _ _ (λ y h. is_sym y.key z.key ∙ before_other z.key y.key h) zs later)),
-      (elim (t z) as (λ b. AllByRecursion (λ y. t y ≡ false → has (map project_key (cond b (z ∷ filter t zs) (filter t zs))) y.key ≡ false) zs) [
-        | true ↦ all_weaker (λ y. (is_before (project_key z) (project_key y) ≡ true) × (t y ≡ false → has (map project_key (filter t zs)) y.key ≡ false)) _
-            (λ y h e. ap (λ b. b || has (map project_key (filter t zs)) y.key) (is_sym y.key z.key ∙ before_other z.key y.key h.0) ∙ h.1 e) zs
-            (all_both (λ y. is_before (project_key z) (project_key y) ≡ true) (λ y. t y ≡ false → has (map project_key (filter t zs)) y.key ≡ false) zs later rest)
-        | false ↦ rest
-      ]),
+      (λ e. ap (λ b. has (map project_key (cond b (z ∷ filter t zs) (filter t zs))) z.key) e
+          ∙ none_has z.key t zs (all_weaker _ _ (λ y h. is_sym y.key z.key ∙ before_other z.key y.key h) zs later)),
+      (elim (t z) as (λ b. AllByRecursion (λ y. t y ≡ false → has (map project_key (cond b (z ∷ filter t zs) (filter t zs))) y.key ≡ false)
+          zs) [
+            | true ↦ all_weaker (λ y. (is_before (project_key z) (project_key y) ≡ true)
+                × (t y ≡ false → has (map project_key (filter t zs)) y.key ≡ false)) _
+                (λ y h e. ap (λ b. b || has (map project_key (filter t zs)) y.key) (is_sym y.key z.key ∙ before_other z.key y.key h.0)
+                ∙ h.1 e)
+                zs
+                (all_both (λ y. is_before (project_key z) (project_key y) ≡ true)
+                (λ y. t y ≡ false → has (map project_key (filter t zs)) y.key ≡ false) zs later rest)
+            | false ↦ rest
+          ]),
     )
 
 listed_in : (choice known : List Key) (k : Key) → AllByRecursion (λ c. has known c ≡ true) choice → has known k ≡ false
@@ -106,7 +113,9 @@ module _ (w : World) (g : Sound w) (two : w.round ≡ Second) where
   wants_same : (l : Key) (s : rows.Student) → IsChoice (project_keys (left_of w)) s.choice
       → wants (left_of w) l s ≡ wants w l s
   wants_same l s c =
-      any_of_left (λ p. has s.choice p.key) (λ p. equals p.lecturer l) taken lowered (all_weaker _ _ (λ z out e. listed_in s.choice (project_keys (left_of w)) z.key c.known (out e)) lowered (out_not_in taken lowered rise))
+      any_of_left (λ p. has s.choice p.key) (λ p. equals p.lecturer l) taken lowered
+      (all_weaker _ _ (λ z out e. listed_in s.choice (project_keys (left_of w)) z.key c.known (out e)) lowered
+      (out_not_in taken lowered rise))
       ∙ ap (list_any (λ p. has s.choice p.key)) (filter_kept (lowered_project w.students) (λ p. equals p.lecturer l) (λ p. refl) w.projects)
       ∙ any_map (λ p. has s.choice p.key) (lowered_project w.students) (projects_of w l)
 
@@ -120,13 +129,19 @@ module _ (w : World) (g : Sound w) (two : w.round ≡ Second) where
       kept_filtered student_key alone_student (wants (left_of w) l) (λ s. refl) (λ s. refl) (students_left w.students)
       ∙ ap (map student_key) (filter_of_left (wants (left_of w) l) (wants w l) is_left w.students
       (all_weaker (λ s. IsChoice (project_keys (left_of w)) s.choice × (is_left s ≡ false → (s.choice ≡ []) × (s.placed ≡ None))) _
-      (λ s h. ((λ e. wants_same l s h.0), (λ e. ap (λ c. list_any (λ p. has c p.key) (projects_of w l)) (h.1 e).0 ∙ any_nowhere (projects_of w l)))) w.students
-      (all_both (λ s. IsChoice (project_keys (left_of w)) s.choice) (λ s. is_left s ≡ false → (s.choice ≡ []) × (s.placed ≡ None)) w.students choices_are g.only_left)))
+      (λ s h. (
+        (λ e. wants_same l s h.0),
+        (λ e. ap (λ c. list_any (λ p. has c p.key) (projects_of w l)) (h.1 e).0
+            ∙ any_nowhere (projects_of w l)),
+      )) w.students
+      (all_both (λ s. IsChoice (project_keys (left_of w)) s.choice)
+      (λ s. is_left s ≡ false → (s.choice ≡ []) × (s.placed ≡ None)) w.students choices_are g.only_left)))
 
   pub still_alone : (l : rows.Lecturer) → is_still_to_rank (alone (left_of w)) l ≡ is_still_to_rank w l
   still_alone l =
       ap (λ b. not b && is_none l.ranking)
-      (sym (empty_map student_key (applicants_of (alone (left_of w)) l.row.key)) ∙ ap is_empty (applicants_alone l.row.key) ∙ empty_map student_key (applicants_of w l.row.key))
+      (sym (empty_map student_key (applicants_of (alone (left_of w)) l.row.key)) ∙ ap is_empty (applicants_alone l.row.key)
+      ∙ empty_map student_key (applicants_of w l.row.key))
 
   -- what holds of each lecturer by key and ranking, holds of those that are left
   staff : (P : Key → Option (List Key) → Type 0) → AllByRecursion (λ l. P l.row.key l.ranking) w.lecturers
@@ -138,63 +153,103 @@ module _ (w : World) (g : Sound w) (two : w.round ≡ Second) where
 
   group : (P : rows.Student → Type 0) → ((s : rows.Student) → P s → P (alone_student s)) → AllByRecursion P w.students
       → AllByRecursion P (alone (left_of w)).students
-  group P k all = all_map P alone_student (students_left w.students) (all_weaker _ _ k (students_left w.students) (all_filter P is_left w.students all))
+  group P k all = all_map P alone_student (students_left w.students)
+      (all_weaker _ _ k (students_left w.students) (all_filter P is_left w.students all))
 
   staff_keys : lecturer_keys (alone (left_of w)) ≡ map lecturer_key (lecturers_left w.lecturers w.projects w.students)
   staff_keys = map_same lecturer_key alone_lecturer (λ l. refl) (lecturers_left w.lecturers w.projects w.students)
 
   pub alone_sound : Sound (alone (left_of w))
   alone_sound =
-      let many : length (alone (left_of w)).students ≡ length (students_left w.students) = length-map (students_left w.students) alone_student in
+      let many : length (alone (left_of w)).students
+      ≡ length (students_left w.students) = length-map (students_left w.students) alone_student in
       let few_s : length (students_left w.students) ≤ length w.students = fewer is_left w.students in
       let few_p : length (filter taken lowered) ≤ length lowered = fewer taken lowered in
       let all_p : length lowered ≡ length w.projects = length-map w.projects (lowered_project w.students) in
-      let some_l : length (alone (left_of w)).lecturers ≡ length (lecturers_left w.lecturers w.projects w.students) = length-map (lecturers_left w.lecturers w.projects w.students) alone_lecturer in
+      let some_l : length (alone (left_of w)).lecturers
+      ≡ length (lecturers_left w.lecturers w.projects w.students) =
+      length-map (lecturers_left w.lecturers w.projects w.students) alone_lecturer in
       let few_l : length (lecturers_left w.lecturers w.projects w.students) ≤ length (map (lowered_lecturer w.projects w.students) w.lecturers) = fewer (λ l. nat_lt 0 l.row.capacity) (map (lowered_lecturer w.projects w.students) w.lecturers) in
-      let all_l : length (map (lowered_lecturer w.projects w.students) w.lecturers) ≡ length w.lecturers = length-map w.lecturers (lowered_lecturer w.projects w.students) in
-      let lecturer_codes : map (λ (l : rows.Lecturer). l.row.code) (alone (left_of w)).lecturers ≡ map (λ l. l.row.code) (lecturers_left w.lecturers w.projects w.students) = map_same _ alone_lecturer (λ l. refl) (lecturers_left w.lecturers w.projects w.students) in
-      let lowered_codes : map (λ (l : rows.Lecturer). l.row.code) (map (lowered_lecturer w.projects w.students) w.lecturers) ≡ map (λ l. l.row.code) w.lecturers = map_same _ (lowered_lecturer w.projects w.students) (λ l. refl) w.lecturers in
-      let student_codes : map (λ (s : rows.Student). s.row.code) (alone (left_of w)).students ≡ map (λ s. s.row.code) (students_left w.students) = map_same _ alone_student (λ s. refl) (students_left w.students) in
-      let apart : AreDistinct (w.office ∷ map (λ (l : rows.Lecturer). l.row.code) (map (lowered_lecturer w.projects w.students) w.lecturers) ++ map (λ (s : rows.Student). s.row.code) (students_left w.students))
+      let all_l : length (map (lowered_lecturer w.projects w.students) w.lecturers)
+      ≡ length w.lecturers = length-map w.lecturers (lowered_lecturer w.projects w.students) in
+      let lecturer_codes : map (λ (l : rows.Lecturer). l.row.code) (alone (left_of w)).lecturers
+      ≡ map (λ l. l.row.code) (lecturers_left w.lecturers w.projects w.students) =
+      map_same _ alone_lecturer (λ l. refl) (lecturers_left w.lecturers w.projects w.students) in
+      let lowered_codes : map (λ (l : rows.Lecturer). l.row.code) (map (lowered_lecturer w.projects w.students) w.lecturers)
+      ≡ map (λ l. l.row.code) w.lecturers = map_same _ (lowered_lecturer w.projects w.students) (λ l. refl) w.lecturers in
+      let student_codes : map (λ (s : rows.Student). s.row.code) (alone (left_of w)).students
+      ≡ map (λ s. s.row.code) (students_left w.students) = map_same _ alone_student (λ s. refl) (students_left w.students) in
+      let apart : AreDistinct (w.office ∷ map (λ (l : rows.Lecturer). l.row.code) (map (lowered_lecturer w.projects w.students) w.lecturers)
+      ++ map (λ (s : rows.Student). s.row.code) (students_left w.students))
       = subst (λ cs. AreDistinct (w.office ∷ cs ++ map (λ (s : rows.Student). s.row.code) (students_left w.students))) (sym lowered_codes)
-      (apart_back (λ (s : rows.Student). s.row.code) is_left (w.office ∷ map (λ (l : rows.Lecturer). l.row.code) w.lecturers) w.students g.codes) in
-      let fronts : AreDistinct (w.office ∷ map (λ (l : rows.Lecturer). l.row.code) (lecturers_left w.lecturers w.projects w.students) ++ map (λ (s : rows.Student). s.row.code) (students_left w.students))
+      (apart_back (λ (s : rows.Student). s.row.code) is_left
+      (w.office ∷ map (λ (l : rows.Lecturer). l.row.code) w.lecturers) w.students g.codes) in
+      let fronts : AreDistinct (w.office ∷ map (λ (l : rows.Lecturer). l.row.code) (lecturers_left w.lecturers w.projects w.students)
+      ++ map (λ (s : rows.Student). s.row.code) (students_left w.students))
       = (
-        none_kept (λ (l : rows.Lecturer). l.row.code) (λ l. nat_lt 0 l.row.capacity) (map (lowered_lecturer w.projects w.students) w.lecturers) (map (λ (s : rows.Student). s.row.code) (students_left w.students)) w.office apart.0,
-        apart_front (λ (l : rows.Lecturer). l.row.code) (λ l. nat_lt 0 l.row.capacity) (map (lowered_lecturer w.projects w.students) w.lecturers) (map (λ (s : rows.Student). s.row.code) (students_left w.students)) apart.1,
+        none_kept (λ (l : rows.Lecturer). l.row.code) (λ l. nat_lt 0 l.row.capacity)
+            (map (lowered_lecturer w.projects w.students) w.lecturers)
+            (map (λ (s : rows.Student). s.row.code) (students_left w.students)) w.office apart.0,
+        apart_front (λ (l : rows.Lecturer). l.row.code) (λ l. nat_lt 0 l.row.capacity)
+            (map (lowered_lecturer w.projects w.students) w.lecturers)
+            (map (λ (s : rows.Student). s.row.code) (students_left w.students)) apart.1,
       ) in
       record {
-        lecturers_rise = subst Rise (sym staff_keys) (rise_kept lecturer_key (λ l. nat_lt 0 l.row.capacity) (map (lowered_lecturer w.projects w.students) w.lecturers)
+        lecturers_rise = subst Rise (sym staff_keys)
+            (rise_kept lecturer_key (λ l. nat_lt 0 l.row.capacity) (map (lowered_lecturer w.projects w.students) w.lecturers)
             (subst Rise (sym (map_same lecturer_key (lowered_lecturer w.projects w.students) (λ l. refl) w.lecturers)) g.lecturers_rise));
         projects_rise = rise_kept project_key taken lowered rise;
-        students_rise = subst Rise (sym (map_same student_key alone_student (λ s. refl) (students_left w.students))) (rise_kept student_key is_left w.students g.students_rise);
+        students_rise = subst Rise (sym (map_same student_key alone_student (λ s. refl) (students_left w.students)))
+            (rise_kept student_key is_left w.students g.students_rise);
         lecturer_forms = all_map (λ l. IsLecturer l.row) alone_lecturer (lecturers_left w.lecturers w.projects w.students)
-            (passes (λ (l : rows.Lecturer). (1 ≤ l.row.capacity → IsLecturer l.row)) (λ l. IsLecturer l.row) (λ l. nat_lt 0 l.row.capacity) (λ l h e. h (some_room l.row.capacity e)) (map (lowered_lecturer w.projects w.students) w.lecturers)
+            (passes (λ (l : rows.Lecturer). (1 ≤ l.row.capacity → IsLecturer l.row)) (λ l. IsLecturer l.row) (λ l. nat_lt 0 l.row.capacity)
+            (λ l h e. h (some_room l.row.capacity e)) (map (lowered_lecturer w.projects w.students) w.lecturers)
             (all_map (λ (l : rows.Lecturer). (1 ≤ l.row.capacity → IsLecturer l.row)) (lowered_lecturer w.projects w.students) w.lecturers
-            (all_weaker _ _ (λ l h low. record { key = h.key; name = h.name; code = h.code; low = low; high = let top = h.high in omega (arith, top) }) w.lecturers g.lecturer_forms)));
+            (all_weaker _ _ (λ l h low. record {
+              key = h.key;
+              name = h.name;
+              code = h.code;
+              low = low;
+              high = let top = h.high in omega (arith, top);
+            }) w.lecturers g.lecturer_forms)));
         project_forms = passes (λ (p : ProjectRow). (1 ≤ p.capacity → IsProject p)) IsProject taken
-            (λ p h e. h (some_room p.capacity (and_parts (nat_lt 0 p.capacity) (has (map lecturer_key (lecturers_left w.lecturers w.projects w.students)) p.lecturer) e).0)) lowered
+            (λ p h e. h (some_room p.capacity (and_parts (nat_lt 0 p.capacity)
+            (has (map lecturer_key (lecturers_left w.lecturers w.projects w.students)) p.lecturer) e).0)) lowered
             (all_map (λ (p : ProjectRow). (1 ≤ p.capacity → IsProject p)) (lowered_project w.students) w.projects
-            (all_weaker _ _ (λ p h low. record { key = h.key; lecturer = h.lecturer; title = h.title; low = low; high = let top = h.high in omega (arith, top) }) w.projects g.project_forms));
+            (all_weaker _ _ (λ p h low. record {
+              key = h.key;
+              lecturer = h.lecturer;
+              title = h.title;
+              low = low;
+              high = let top = h.high in omega (arith, top);
+            }) w.projects g.project_forms));
         student_forms = group (λ s. IsStudent s.row) (λ s h. h) g.student_forms;
         office_form = g.office_form;
         few_lecturers = let top = g.few_lecturers in omega (arith, some_l, few_l, all_l, top);
         few_projects = let top = g.few_projects in omega (arith, few_p, all_p, top);
         few_students = let top = g.few_students in omega (arith, many, few_s, top);
-        codes = subst (λ cs. AreDistinct (w.office ∷ cs ++ map (λ (s : rows.Student). s.row.code) (alone (left_of w)).students)) (sym lecturer_codes)
-            (subst (λ cs. AreDistinct (w.office ∷ map (λ (l : rows.Lecturer). l.row.code) (lecturers_left w.lecturers w.projects w.students) ++ cs)) (sym student_codes) fronts);
-        lecturers_known = subst (λ ks. AllByRecursion (λ p. has ks p.lecturer ≡ true) (filter taken lowered)) (sym staff_keys) (known_left (λ p. nat_lt 0 p.capacity) (map lecturer_key (lecturers_left w.lecturers w.projects w.students)) lowered);
+        codes = subst (λ cs. AreDistinct (w.office ∷ cs ++ map (λ (s : rows.Student). s.row.code) (alone (left_of w)).students))
+            (sym lecturer_codes)
+            (subst (λ cs. AreDistinct (w.office ∷ map (λ (l : rows.Lecturer). l.row.code) (lecturers_left w.lecturers w.projects w.students)
+            ++ cs)) (sym student_codes) fronts);
+        lecturers_known = subst (λ ks. AllByRecursion (λ p. has ks p.lecturer ≡ true) (filter taken lowered)) (sym staff_keys)
+            (known_left (λ p. nat_lt 0 p.capacity) (map lecturer_key (lecturers_left w.lecturers w.projects w.students)) lowered);
         choices = group (λ s. IsChoice (project_keys (left_of w)) s.choice) (λ s h. h) choices_are;
         no_choices_yet = λ h. group (λ s. s.choice ≡ []) (λ s e. e) (g.no_choices_yet h);
         no_rankings_yet = λ h. staff (λ k r. r ≡ None) (g.no_rankings_yet h);
         rankings = staff (λ k r. IfSome r (IsRanking (map student_key (applicants_of (alone (left_of w)) k))))
-            (all_weaker _ _ (λ l h. subst (λ ks. IfSome l.ranking (IsRanking ks)) (sym (applicants_alone l.row.key)) h) w.lecturers g.rankings);
+            (all_weaker _ _ (λ l h. subst (λ ks. IfSome l.ranking (IsRanking ks)) (sym (applicants_alone l.row.key)) h) w.lecturers
+            g.rankings);
         no_result_yet = λ h. group (λ s. s.placed ≡ None) (λ s e. e) (g.no_result_yet h);
-        all_ranked = λ h. staff (λ k r. (not (is_empty (applicants_of (alone (left_of w)) k)) && is_none r) ≡ false) (all_weaker _ _ (λ l e. still_alone l ∙ e) w.lecturers (g.all_ranked h));
-        no_earlier_lists = λ h. all_map (λ (s : rows.Student). (s.earlier_choice ≡ []) × (s.earlier_placement ≡ None)) alone_student (students_left w.students) (each_one _ (λ s. (refl, refl)) (students_left w.students));
-        no_earlier_rankings = λ h. all_map (λ (l : rows.Lecturer). l.earlier_ranking ≡ None) alone_lecturer (lecturers_left w.lecturers w.projects w.students) (each_one _ (λ l. refl) (lecturers_left w.lecturers w.projects w.students));
+        all_ranked = λ h. staff (λ k r. (not (is_empty (applicants_of (alone (left_of w)) k)) && is_none r) ≡ false)
+            (all_weaker _ _ (λ l e. still_alone l ∙ e) w.lecturers (g.all_ranked h));
+        no_earlier_lists = λ h. all_map (λ (s : rows.Student). (s.earlier_choice ≡ []) × (s.earlier_placement ≡ None)) alone_student
+            (students_left w.students) (each_one _ (λ s. (refl, refl)) (students_left w.students));
+        no_earlier_rankings = λ h. all_map (λ (l : rows.Lecturer). l.earlier_ranking ≡ None) alone_lecturer
+            (lecturers_left w.lecturers w.projects w.students) (each_one _ (λ l. refl) (lecturers_left w.lecturers w.projects w.students));
         no_second_setup = λ h. cc;
-        only_left = all_map (λ (s : rows.Student). is_left s ≡ false → (s.choice ≡ []) × (s.placed ≡ None)) alone_student (students_left w.students) (each_one _ (λ s h. cc) (students_left w.students));
+        only_left = all_map (λ (s : rows.Student). is_left s ≡ false → (s.choice ≡ []) × (s.placed ≡ None)) alone_student
+            (students_left w.students) (each_one _ (λ s h. cc) (students_left w.students));
       }
 
 -- the instance and the matching read nothing else
@@ -203,14 +258,17 @@ pub rows_alone : (u : World) → instance_of (alone u) ≡ instance_of u
 rows_alone u =
     let lecturers : lecturer_keys (alone u) ≡ lecturer_keys u = map_same lecturer_key alone_lecturer (λ l. refl) u.lecturers in
     let students : student_keys (alone u) ≡ student_keys u = map_same student_key alone_student (λ s. refl) u.students in
-    let limits : map (λ (l : rows.Lecturer). l.row.capacity) (map alone_lecturer u.lecturers) ≡ map (λ l. l.row.capacity) u.lecturers = map_same _ alone_lecturer (λ l. refl) u.lecturers in
-    let rankings : map (λ (l : rows.Lecturer). unwrap_or l.ranking []) (map alone_lecturer u.lecturers) ≡ map (λ l. unwrap_or l.ranking []) u.lecturers = map_same _ alone_lecturer (λ l. refl) u.lecturers in
+    let limits : map (λ (l : rows.Lecturer). l.row.capacity) (map alone_lecturer u.lecturers)
+    ≡ map (λ l. l.row.capacity) u.lecturers = map_same _ alone_lecturer (λ l. refl) u.lecturers in
+    let rankings : map (λ (l : rows.Lecturer). unwrap_or l.ranking []) (map alone_lecturer u.lecturers)
+    ≡ map (λ l. unwrap_or l.ranking []) u.lecturers = map_same _ alone_lecturer (λ l. refl) u.lecturers in
     λ i. record (instance_of u) {
       student_keys = students i;
       choices = map_same (λ (s : rows.Student). map (number_in (project_keys u)) s.choice) alone_student (λ s. refl) u.students i;
       lecturers = map (λ (p : ProjectRow). number_in (lecturers i) p.lecturer) u.projects;
       lecturer_keys = lecturers i;
-      rankings = map_same (λ (l : rows.Lecturer). map (number_in (students i)) (unwrap_or l.ranking [])) alone_lecturer (λ l. refl) u.lecturers i;
+      rankings = map_same (λ (l : rows.Lecturer). map (number_in (students i)) (unwrap_or l.ranking [])) alone_lecturer
+          (λ l. refl) u.lecturers i;
       limits = limits i;
     }
 
@@ -220,8 +278,15 @@ places_alone u = map_same (λ (s : rows.Student). option_map (number_in (project
 pub itself : (w : World) → Sound w → w.round ≡ First → alone w ≡ w
 itself w g one = λ i. record w {
   round = sym one i;
-  lecturers = map_fixed alone_lecturer w.lecturers (All-from_recursion (λ l. alone_lecturer l ≡ l) w.lecturers (all_weaker (λ (l : rows.Lecturer). l.earlier_ranking ≡ None) (λ l. alone_lecturer l ≡ l) (λ l e j. record l { earlier_ranking = sym e j }) w.lecturers (g.no_earlier_rankings (ap rows.is_second one)))) i;
-  students = map_fixed alone_student w.students (All-from_recursion (λ s. alone_student s ≡ s) w.students (all_weaker (λ (s : rows.Student). (s.earlier_choice ≡ []) × (s.earlier_placement ≡ None)) (λ s. alone_student s ≡ s) (λ s e j. record s { earlier_choice = sym e.0 j; earlier_placement = sym e.1 j }) w.students (g.no_earlier_lists (ap rows.is_second one)))) i;
+  lecturers = map_fixed alone_lecturer w.lecturers
+      (All-from_recursion (λ l. alone_lecturer l ≡ l) w.lecturers
+      (all_weaker (λ (l : rows.Lecturer). l.earlier_ranking ≡ None) (λ l. alone_lecturer l ≡ l)
+      (λ l e j. record l { earlier_ranking = sym e j }) w.lecturers (g.no_earlier_rankings (ap rows.is_second one)))) i;
+  students = map_fixed alone_student w.students
+      (All-from_recursion (λ s. alone_student s ≡ s) w.students
+      (all_weaker (λ (s : rows.Student). (s.earlier_choice ≡ []) × (s.earlier_placement ≡ None)) (λ s. alone_student s ≡ s)
+      (λ s e j. record s { earlier_choice = sym e.0 j; earlier_placement = sym e.1 j }) w.students
+      (g.no_earlier_lists (ap rows.is_second one)))) i;
 }
 
 sound_alone : (w : World) → Sound w → (r : Round) → w.round ≡ r → Sound (alone (in_play w))
@@ -233,7 +298,8 @@ pub played_alone : (w : World) → Good w → Good (alone (in_play w)) × (insta
 played_alone w g = (
   record {
     sound = sound_alone w g.sound w.round refl;
-    stable = λ h. subst (λ i. IsStable i (places_of (alone (in_play w)))) (sym (rows_alone (in_play w))) (subst (IsStable (instance w)) (sym (places_alone (in_play w))) (g.stable h));
+    stable = λ h. subst (λ i. IsStable i (places_of (alone (in_play w)))) (sym (rows_alone (in_play w)))
+        (subst (IsStable (instance w)) (sym (places_alone (in_play w))) (g.stable h));
     before = λ h. cc;
   },
   rows_alone (in_play w),

@@ -45,13 +45,13 @@ pub use Rattle.portal_rules.specs.Good.{Good, IsChoice, IsLecturer, IsProject, I
 pub use Rattle.portal_rules.specs.Good.{codes_of, placed_to, placed_with, instance, instance_of, lecturer_keys}
 pub use Rattle.portal_rules.specs.Good.{matching_of, places_of, project_keys, student_keys, KeepsCapacities, CanPublish}
 pub use Rattle.portal_rules.specs.Heard.{ChangeSeen, Heard, HeardItem, SeenIf, Sees, is_move_or_add, replies_to}
-pub use Rattle.portal_rules.specs.Heard.{Reordered, SameButPlaces, own_item, may_show, SameStudent, Asked, HeardOf}
-pub use Rattle.portal_rules.specs.Heard.{IsMember, IsIdle, none, front, turn, chain, SameWish, equal, sets, SameRequest}
-pub use Rattle.portal_rules.specs.Heard.{has_places, moves_to_published, Unless, AlikeUntilPublished}
+pub use Rattle.portal_rules.specs.Heard.{Reordered, SameUpToListOrder, own_item, may_show, SameStudent, Asked, HeardOf}
+pub use Rattle.portal_rules.specs.Heard.{IsMember, IsIdle, Empty, Front, Turn, Chain, SameWish, Equal, Sets, SameRequest}
+pub use Rattle.portal_rules.specs.Heard.{shows_own_list, moves_to_published, Unless, AlikeUntilPublished}
 pub use Rattle.portal_rules.specs.Meaning.{texts_of, change_model, call_model, decision_model}
 pub use Rattle.portal_rules.specs.Run.{OpensSecond, AllAnswered, Answers, Calls, HasForm, NoCall, Request, Run, Serves}
 pub use Rattle.portal_rules.specs.Run.{Step, StepLeaves, Wish, end_of, unavailable, OpensOnce}
-pub use Rattle.portal_rules.specs.Sight.{AbstractCall, LecturerSees, OfficeSees, StudentSees}
+pub use Rattle.portal_rules.specs.Calls.{AbstractCall, LecturerSees, OfficeSees, StudentSees}
 pub use Rattle.portal_rules.specs.View.{Caller, LecturerCaller, NoCaller, OfficeCaller, StudentCaller, caller}
 pub use Rattle.portal_rules.specs.View.{caller_among, catalogue, lecturer_sees, lecturer_with, listing_with, listings}
 pub use Rattle.portal_rules.specs.View.{name_in, office_sees, persons, sight_of, student_sees, student_with, view}

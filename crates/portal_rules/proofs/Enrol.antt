@@ -29,7 +29,8 @@ distinct_between [] zs x d new = (new, d)
 distinct_between (y ∷ ys) zs x d new =
     let parts : (equals x y ≡ false) × (has (ys ++ zs) x ≡ false) = or_parts (equals x y) (has (ys ++ zs) x) new in
     let old : (has ys y ≡ false) × (has zs y ≡ false) = or_parts (has ys y) (has zs y) (sym (any_append (equals y) ys zs) ∙ d.0) in (
-      any_append (equals y) ys (x ∷ zs) ∙ ap (λ b. b || (equals y x || has zs y)) old.0 ∙ ap (λ b. b || has zs y) (is_sym y x ∙ parts.0) ∙ old.1,
+      any_append (equals y) ys (x ∷ zs) ∙ ap (λ b. b || (equals y x || has zs y)) old.0 ∙ ap (λ b. b || has zs y) (is_sym y x ∙ parts.0)
+          ∙ old.1,
       distinct_between ys zs x d.1 parts.1,
     )
 
@@ -51,71 +52,121 @@ module _ (w : World) (early : is_from_ranking w.phase ≡ false) (one : w.round 
 
   put_student : (ss : List rows.Student) (r : StudentRow) → Sound (record w { students = ss }) → IsStudent r
       → has (map student_key ss) r.key ≡ false
-      → (student_roll (office_sees w)).is_bad (map (λ (s : rows.Student). s.row) ss) r ≡ false → length ss + 1 ≤ 2000 → Sound (record w { students = put student_key (new_student r) ss })
+      → (student_roll (office_sees w)).is_bad (map (λ (s : rows.Student). s.row) ss) r ≡ false → length ss + 1 ≤ 2000
+      → Sound (record w { students = put student_key (new_student r) ss })
   put_student ss r g form key free room =
       let code : has (codes_of (record w { students = ss })) r.code ≡ false
-      = subst (λ ls. has (w.office ∷ ls ++ map (λ (s : rows.Student). s.row.code) ss) r.code ≡ false) (map-map (λ (r : LecturerRow). r.code) (λ (l : rows.Lecturer). l.row) w.lecturers)
-      (subst (λ cs. has (w.office ∷ map (λ (l : LecturerRow). l.code) (map (λ (l : rows.Lecturer). l.row) w.lecturers) ++ cs) r.code ≡ false) (map-map (λ (r : StudentRow). r.code) (λ (s : rows.Student). s.row) ss) free) in
+      = subst (λ ls. has (w.office ∷ ls ++ map (λ (s : rows.Student). s.row.code) ss) r.code ≡ false)
+      (map-map (λ (r : LecturerRow). r.code) (λ (l : rows.Lecturer). l.row) w.lecturers)
+      (subst (λ cs. has (w.office ∷ map (λ (l : LecturerRow). l.code) (map (λ (l : rows.Lecturer). l.row) w.lecturers) ++ cs) r.code
+      ≡ false) (map-map (λ (r : StudentRow). r.code) (λ (s : rows.Student). s.row) ss) free) in
       let students_rise = rise_put student_key (new_student r) ss g.students_rise key in
       let student_forms = all_put student_key (new_student r) (λ s. IsStudent s.row) ss form g.student_forms in
       let few_students : length (put student_key (new_student r) ss) ≤ 2000 = omega (arith, length_put student_key (new_student r) ss) in
-      let apart = distinct_put student_key (new_student r) (λ s. s.row.code) (w.office ∷ map (λ (l : rows.Lecturer). l.row.code) w.lecturers) ss g.codes code in
-      let choices = subst (λ ks. AllByRecursion (λ (s : rows.Student). IsChoice ks s.choice) (put student_key (new_student r) ss)) (sym (all_take_part w.lecturers w.projects (put student_key (new_student r) ss)))
-      (all_put student_key (new_student r) (λ s. IsChoice (project_keys w) s.choice) ss (record { few = omega arith; known = tt; once = tt })
+      let apart = distinct_put student_key (new_student r) (λ s. s.row.code)
+      (w.office ∷ map (λ (l : rows.Lecturer). l.row.code) w.lecturers) ss g.codes code in
+      let choices = subst (λ ks. AllByRecursion (λ (s : rows.Student). IsChoice ks s.choice) (put student_key (new_student r) ss))
+      (sym (all_take_part w.lecturers w.projects (put student_key (new_student r) ss)))
+      (all_put student_key (new_student r) (λ s. IsChoice (project_keys w) s.choice) ss
+      (record { few = omega arith; known = tt; once = tt })
       (subst (λ ks. AllByRecursion (λ (s : rows.Student). IsChoice ks s.choice) ss) (all_take_part w.lecturers w.projects ss) g.choices)) in
-      let no_choices_yet : is_setup w.phase ≡ true → AllByRecursion (λ (s : rows.Student). s.choice ≡ []) (put student_key (new_student r) ss) = λ h. all_put student_key (new_student r) _ ss refl (g.no_choices_yet h) in
-      let rankings = none_ranked (λ l. IsRanking (map student_key (applicants_of (record w { students = put student_key (new_student r) ss }) l.row.key))) w.lecturers (g.no_rankings_yet early) in
-      let no_result_yet : is_published w.phase ≡ false → AllByRecursion (λ (s : rows.Student). s.placed ≡ None) (put student_key (new_student r) ss) = λ h. all_put student_key (new_student r) _ ss refl (g.no_result_yet h) in
+      let no_choices_yet : is_setup w.phase ≡ true
+      → AllByRecursion (λ (s : rows.Student). s.choice ≡ []) (put student_key (new_student r) ss) =
+      λ h. all_put student_key (new_student r) _ ss refl (g.no_choices_yet h) in
+      let rankings = none_ranked (λ l. IsRanking
+      (map student_key (applicants_of (record w { students = put student_key (new_student r) ss }) l.row.key))) w.lecturers
+      (g.no_rankings_yet early) in
+      let no_result_yet : is_published w.phase ≡ false
+      → AllByRecursion (λ (s : rows.Student). s.placed ≡ None) (put student_key (new_student r) ss) =
+      λ h. all_put student_key (new_student r) _ ss refl (g.no_result_yet h) in
       let shut : is_published w.phase ≡ false = open_phase w.phase early in
-      let all_ranked : is_published w.phase ≡ true → AllByRecursion (λ l. is_still_to_rank (record w { students = put student_key (new_student r) ss }) l ≡ false) w.lecturers = λ h. cc in
-      let no_earlier_lists : is_second w.round ≡ false → AllByRecursion (λ (s : rows.Student). (s.earlier_choice ≡ []) × (s.earlier_placement ≡ None)) (put student_key (new_student r) ss)
+      let all_ranked : is_published w.phase ≡ true
+      → AllByRecursion (λ l. is_still_to_rank (record w { students = put student_key (new_student r) ss }) l ≡ false) w.lecturers =
+      λ h. cc in
+      let no_earlier_lists : is_second w.round ≡ false
+      → AllByRecursion (λ (s : rows.Student). (s.earlier_choice ≡ []) × (s.earlier_placement ≡ None))
+      (put student_key (new_student r) ss)
       = λ h. all_put student_key (new_student r) _ ss (refl, refl) (g.no_earlier_lists h) in
-      let only_left = all_put student_key (new_student r) (λ s. is_left s ≡ false → (s.choice ≡ []) × (s.placed ≡ None)) ss (λ h. (refl, refl)) g.only_left in
+      let only_left = all_put student_key (new_student r) (λ s. is_left s ≡ false → (s.choice ≡ []) × (s.placed ≡ None)) ss
+      (λ h. (refl, refl)) g.only_left in
       assumption
 
   put_lecturer : (ls : List rows.Lecturer) (r : LecturerRow) → Sound (record w { lecturers = ls }) → IsLecturer r
       → has (map lecturer_key ls) r.key ≡ false
-      → (lecturer_roll (office_sees w)).is_bad (map (λ (l : rows.Lecturer). l.row) ls) r ≡ false → length ls + 1 ≤ 300 → Sound (record w { lecturers = put lecturer_key (new_lecturer r) ls })
+      → (lecturer_roll (office_sees w)).is_bad (map (λ (l : rows.Lecturer). l.row) ls) r ≡ false → length ls + 1 ≤ 300
+      → Sound (record w { lecturers = put lecturer_key (new_lecturer r) ls })
   put_lecturer ls r g form key free room =
       let ss : List Key = map (λ (s : rows.Student). s.row.code) w.students in
       let code : has (w.office ∷ ss ++ map (λ (l : rows.Lecturer). l.row.code) ls) r.code ≡ false
-      = subst (λ cs. has (w.office ∷ cs ++ map (λ (l : rows.Lecturer). l.row.code) ls) r.code ≡ false) (map-map (λ (r : StudentRow). r.code) (λ (s : rows.Student). s.row) w.students)
-      (subst (λ cs. has (w.office ∷ map (λ (s : StudentRow). s.code) (map (λ (s : rows.Student). s.row) w.students) ++ cs) r.code ≡ false) (map-map (λ (r : LecturerRow). r.code) (λ (l : rows.Lecturer). l.row) ls) free) in
+      = subst (λ cs. has (w.office ∷ cs ++ map (λ (l : rows.Lecturer). l.row.code) ls) r.code ≡ false)
+      (map-map (λ (r : StudentRow). r.code) (λ (s : rows.Student). s.row) w.students)
+      (subst (λ cs. has (w.office ∷ map (λ (s : StudentRow). s.code) (map (λ (s : rows.Student). s.row) w.students) ++ cs) r.code ≡ false)
+      (map-map (λ (r : LecturerRow). r.code) (λ (l : rows.Lecturer). l.row) ls) free) in
       let turned : AreDistinct (w.office ∷ ss ++ map (λ (l : rows.Lecturer). l.row.code) ls)
-      = (has_swap ss (map (λ (l : rows.Lecturer). l.row.code) ls) w.office ∙ g.codes.0, distinct_swap (map (λ (l : rows.Lecturer). l.row.code) ls) ss g.codes.1) in
+      = (
+        has_swap ss (map (λ (l : rows.Lecturer). l.row.code) ls) w.office
+            ∙ g.codes.0,
+        distinct_swap (map (λ (l : rows.Lecturer). l.row.code) ls) ss g.codes.1,
+      ) in
       let more : AreDistinct (w.office ∷ ss ++ map (λ (l : rows.Lecturer). l.row.code) (put lecturer_key (new_lecturer r) ls))
       = distinct_put lecturer_key (new_lecturer r) (λ l. l.row.code) (w.office ∷ ss) ls turned code in
       let lecturers_rise = rise_put lecturer_key (new_lecturer r) ls g.lecturers_rise key in
       let lecturer_forms = all_put lecturer_key (new_lecturer r) (λ l. IsLecturer l.row) ls form g.lecturer_forms in
-      let few_lecturers : length (put lecturer_key (new_lecturer r) ls) ≤ 300 = omega (arith, length_put lecturer_key (new_lecturer r) ls) in
+      let few_lecturers : length (put lecturer_key (new_lecturer r) ls) ≤ 300 =
+      omega (arith, length_put lecturer_key (new_lecturer r) ls) in
       let apart : AreDistinct (codes_of (record w { lecturers = put lecturer_key (new_lecturer r) ls }))
-      = (has_swap (map (λ (l : rows.Lecturer). l.row.code) (put lecturer_key (new_lecturer r) ls)) ss w.office ∙ more.0, distinct_swap ss (map (λ (l : rows.Lecturer). l.row.code) (put lecturer_key (new_lecturer r) ls)) more.1) in
-      let lecturers_known : AllByRecursion (λ (p : ProjectRow). has (map lecturer_key (put lecturer_key (new_lecturer r) ls)) p.lecturer ≡ true) w.projects
+      = (
+        has_swap (map (λ (l : rows.Lecturer). l.row.code) (put lecturer_key (new_lecturer r) ls)) ss w.office
+            ∙ more.0,
+        distinct_swap ss (map (λ (l : rows.Lecturer). l.row.code) (put lecturer_key (new_lecturer r) ls)) more.1,
+      ) in
+      let lecturers_known : AllByRecursion (λ (p : ProjectRow). has (map lecturer_key (put lecturer_key (new_lecturer r) ls)) p.lecturer
+      ≡ true) w.projects
       = all_weaker _ _ (λ p h. still_has lecturer_key (new_lecturer r) ls p.lecturer h) w.projects g.lecturers_known in
-      let choices = subst (λ ks. AllByRecursion (λ (s : rows.Student). IsChoice ks s.choice) w.students) (all_take_part ls w.projects w.students ∙ sym (all_take_part (put lecturer_key (new_lecturer r) ls) w.projects w.students)) g.choices in
-      let no_rankings_yet : is_from_ranking w.phase ≡ false → AllByRecursion (λ l. l.ranking ≡ None) (put lecturer_key (new_lecturer r) ls) = λ h. all_put lecturer_key (new_lecturer r) _ ls refl (g.no_rankings_yet h) in
-      let rankings = none_ranked (λ l. IsRanking (map student_key (applicants_of (record w { lecturers = put lecturer_key (new_lecturer r) ls }) l.row.key))) (put lecturer_key (new_lecturer r) ls) (no_rankings_yet early) in
+      let choices = subst (λ ks. AllByRecursion (λ (s : rows.Student). IsChoice ks s.choice) w.students)
+      (all_take_part ls w.projects w.students ∙ sym (all_take_part (put lecturer_key (new_lecturer r) ls) w.projects w.students))
+      g.choices in
+      let no_rankings_yet : is_from_ranking w.phase ≡ false
+      → AllByRecursion (λ l. l.ranking ≡ None) (put lecturer_key (new_lecturer r) ls) =
+      λ h. all_put lecturer_key (new_lecturer r) _ ls refl (g.no_rankings_yet h) in
+      let rankings = none_ranked (λ l. IsRanking
+      (map student_key (applicants_of (record w { lecturers = put lecturer_key (new_lecturer r) ls }) l.row.key)))
+      (put lecturer_key (new_lecturer r) ls) (no_rankings_yet early) in
       let shut : is_published w.phase ≡ false = open_phase w.phase early in
-      let all_ranked : is_published w.phase ≡ true → AllByRecursion (λ l. is_still_to_rank (record w { lecturers = put lecturer_key (new_lecturer r) ls }) l ≡ false) (put lecturer_key (new_lecturer r) ls) = λ h. cc in
-      let no_earlier_rankings : is_second w.round ≡ false → AllByRecursion (λ (l : rows.Lecturer). l.earlier_ranking ≡ None) (put lecturer_key (new_lecturer r) ls) = λ h. all_put lecturer_key (new_lecturer r) _ ls refl (g.no_earlier_rankings h) in
+      let all_ranked : is_published w.phase ≡ true
+      → AllByRecursion (λ l. is_still_to_rank (record w { lecturers = put lecturer_key (new_lecturer r) ls }) l
+      ≡ false) (put lecturer_key (new_lecturer r) ls) = λ h. cc in
+      let no_earlier_rankings : is_second w.round ≡ false
+      → AllByRecursion (λ (l : rows.Lecturer). l.earlier_ranking ≡ None) (put lecturer_key (new_lecturer r) ls) =
+      λ h. all_put lecturer_key (new_lecturer r) _ ls refl (g.no_earlier_rankings h) in
       assumption
 
   put_project : (ps : List ProjectRow) (r : ProjectRow) → Sound (record w { projects = ps }) → IsProject r
       → has (map project_key ps) r.key ≡ false
-      → (project_roll (office_sees w)).is_bad (map (λ (p : ProjectRow). p) ps) r ≡ false → length ps + 1 ≤ 1000 → Sound (record w { projects = put project_key r ps })
+      → (project_roll (office_sees w)).is_bad (map (λ (p : ProjectRow). p) ps) r ≡ false → length ps + 1 ≤ 1000
+      → Sound (record w { projects = put project_key r ps })
   put_project ps r g form key free room =
       let known : has (lecturer_keys w) r.lecturer ≡ true
-      = subst (λ ks. has ks r.lecturer ≡ true) (map-map (λ (r : LecturerRow). r.key) (λ (l : rows.Lecturer). l.row) w.lecturers) (not-false _ free) in
+      = subst (λ ks. has ks r.lecturer ≡ true) (map-map (λ (r : LecturerRow). r.key) (λ (l : rows.Lecturer). l.row) w.lecturers)
+      (not-false _ free) in
       let projects_rise = rise_put project_key r ps g.projects_rise key in
       let project_forms = all_put project_key r IsProject ps form g.project_forms in
       let few_projects : length (put project_key r ps) ≤ 1000 = omega (arith, length_put project_key r ps) in
       let lecturers_known = all_put project_key r (λ p. has (lecturer_keys w) p.lecturer ≡ true) ps known g.lecturers_known in
-      let choices = subst (λ ks. AllByRecursion (λ (s : rows.Student). IsChoice ks s.choice) w.students) (sym (all_take_part w.lecturers (put project_key r ps) w.students))
-      (all_weaker _ _ (λ s c. record { few = c.few; known = all_weaker _ _ (λ p h. still_has project_key r ps p h) s.choice c.known; once = c.once }) w.students
-      (subst (λ ks. AllByRecursion (λ (s : rows.Student). IsChoice ks s.choice) w.students) (all_take_part w.lecturers ps w.students) g.choices)) in
-      let rankings = none_ranked (λ l. IsRanking (map student_key (applicants_of (record w { projects = put project_key r ps }) l.row.key))) w.lecturers (g.no_rankings_yet early) in
+      let choices = subst (λ ks. AllByRecursion (λ (s : rows.Student). IsChoice ks s.choice) w.students)
+      (sym (all_take_part w.lecturers (put project_key r ps) w.students))
+      (all_weaker _ _ (λ s c. record {
+        few = c.few;
+        known = all_weaker _ _ (λ p h. still_has project_key r ps p h) s.choice c.known;
+        once = c.once;
+      }) w.students
+      (subst (λ ks. AllByRecursion (λ (s : rows.Student). IsChoice ks s.choice) w.students)
+      (all_take_part w.lecturers ps w.students) g.choices)) in
+      let rankings = none_ranked (λ l. IsRanking (map student_key (applicants_of (record w { projects = put project_key r ps }) l.row.key)))
+      w.lecturers (g.no_rankings_yet early) in
       let shut : is_published w.phase ≡ false = open_phase w.phase early in
-      let all_ranked : is_published w.phase ≡ true → AllByRecursion (λ l. is_still_to_rank (record w { projects = put project_key r ps }) l ≡ false) w.lecturers = λ h. cc in
+      let all_ranked : is_published w.phase ≡ true
+      → AllByRecursion (λ l. is_still_to_rank (record w { projects = put project_key r ps }) l ≡ false) w.lecturers = λ h. cc in
       assumption
 
   itself : {X : Type 0} (xs : List X) → Alike xs xs
@@ -126,7 +177,8 @@ module _ (w : World) (early : is_from_ranking w.phase ≡ false) (one : w.round 
       → Sound (with_students w new)
   students_added rs new same g forms e =
       taken (student_roll (office_sees w)) (λ s. s.row) new_student (λ r. refl) IsStudent (λ ss. Sound (record w { students = ss }))
-      (λ xs ys r al. has_alike (λ (s : StudentRow). s.code) (w.office ∷ map (λ (l : LecturerRow). l.code) (office_sees w).lecturers) xs ys r.code al)
+      (λ xs ys r al. has_alike (λ (s : StudentRow). s.code)
+      (w.office ∷ map (λ (l : LecturerRow). l.code) (office_sees w).lecturers) xs ys r.code al)
       put_student rs 1 (office_sees w).students w.students new same g (itself _) forms e
 
   pub lecturers_added : (rs new : List LecturerRow) (same : ℕ) → Sound w → AllByRecursion IsLecturer rs
@@ -134,7 +186,8 @@ module _ (w : World) (early : is_from_ranking w.phase ≡ false) (one : w.round 
       → Sound (with_lecturers w new)
   lecturers_added rs new same g forms e =
       taken (lecturer_roll (office_sees w)) (λ l. l.row) new_lecturer (λ r. refl) IsLecturer (λ ls. Sound (record w { lecturers = ls }))
-      (λ xs ys r al. has_alike (λ (l : LecturerRow). l.code) (w.office ∷ map (λ (s : StudentRow). s.code) (office_sees w).students) xs ys r.code al)
+      (λ xs ys r al. has_alike (λ (l : LecturerRow). l.code)
+      (w.office ∷ map (λ (s : StudentRow). s.code) (office_sees w).students) xs ys r.code al)
       put_lecturer rs 1 (office_sees w).lecturers w.lecturers new same g (itself _) forms e
 
   pub projects_added : (rs new : List ProjectRow) (same : ℕ) → Sound w → AllByRecursion IsProject rs
@@ -144,4 +197,5 @@ module _ (w : World) (early : is_from_ranking w.phase ≡ false) (one : w.round 
       subst (λ ps. Sound (with_projects w ps)) (map-id new)
       (taken (project_roll (office_sees w)) (λ p. p) (λ p. p) (λ r. refl) IsProject (λ ps. Sound (record w { projects = ps }))
       (λ xs ys r al. refl)
-      put_project rs 1 (office_sees w).projects w.projects new same g (subst (λ ps. Alike w.projects ps) (sym (map-id w.projects)) (itself w.projects)) forms e)
+      put_project rs 1 (office_sees w).projects w.projects new same g
+      (subst (λ ps. Alike w.projects ps) (sym (map-id w.projects)) (itself w.projects)) forms e)

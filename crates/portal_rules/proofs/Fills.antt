@@ -1,5 +1,5 @@
 -- What the office's fill leaves of each caller, and that it keeps the rows sound.
-use Rattle.portal_rules.proofs.Base.{◌≡◌, Bool, true, false, cond, List, [], ◌∷◌, refl, ◌∙◌, ap, map, filter, Some}
+use Rattle.portal_rules.proofs.Base.{◌≡◌, Bool, true, false, cond, List, [], ◌∷◌, refl, ◌∙◌, ap, map, filter}
 use Rattle.portal_rules.proofs.Base.{option_map, IfSome, ◌||◌, filter_map, AllByRecursion, or-true, Key, equals, has}
 use Rattle.portal_rules.proofs.Base.{is_before, Rise, AreDistinct, World, in_play, student_key, applicants_of}
 use Rattle.portal_rules.proofs.Base.{is_still_to_rank, is_ranking, is_from_ranking, Fill, changed, with_fill, Office}
@@ -12,13 +12,11 @@ use Rattle.portal_rules.proofs.AllLaws.{map_same}
 use Rattle.portal_rules.proofs.Reranked.{re_called, caller_kept, names_kept, sound_kept}
 
 module _ (w : World) where
-  abbrev pub given : rows.Lecturer → rows.Lecturer
-  given l = record l { ranking = Some (map student_key (applicants_of w l.row.key)) }
-
   pub catalogue_filled : catalogue (changed w Fill) ≡ catalogue w
   catalogue_filled =
       (λ i. listings (play_filled w i).lecturers (play_filled w i).projects)
-      ∙ λ i. filter_map (λ p. option_map (listing_with p) (names_kept (with_fill w) (fill_row w) (in_play w).lecturers p.lecturer i)) (in_play w).projects
+      ∙ λ i. filter_map (λ p. option_map (listing_with p) (names_kept (with_fill w) (fill_row w) (in_play w).lecturers p.lecturer i))
+      (in_play w).projects
 
   -- nobody is still to rank
 
@@ -37,18 +35,23 @@ module _ (w : World) where
   }
     where
       left : (b : Bool)
-          → cond b (map (λ (l : rows.Lecturer). l.row.key) (filter (is_still_to_rank (changed w Fill)) (map (with_fill w) w.lecturers))) [] ≡ []
+          → cond b (map (λ (l : rows.Lecturer). l.row.key) (filter (is_still_to_rank (changed w Fill)) (map (with_fill w) w.lecturers))) []
+          ≡ []
       left b = grind (arith, none_left w.lecturers)
 
   pub view_filled : (c : Key) → caller w c ≡ OfficeCaller → view (changed w Fill) c ≡ Office (record (office_sees w) { still_to_rank = [] })
-  view_filled c e = ap (sight_of (changed w Fill)) (caller_kept (with_fill w) (fill_row w) w c ∙ ap (re_called (with_fill w)) e) ∙ ap Office office_filled
+  view_filled c e = ap (sight_of (changed w Fill)) (caller_kept (with_fill w) (fill_row w) w c ∙ ap (re_called (with_fill w)) e)
+      ∙ ap Office office_filled
 
 -- the applicants by key are a ranking
 
 all_there : (ks ls : List Key) → ((k : Key) → has ks k ≡ true → has ls k ≡ true)
     → AllByRecursion (λ k. has ls k ≡ true) ks
 all_there [] ls k = tt
-all_there (x ∷ ks) ls k = (k x (ap (λ b. b || has ks x) (is_own x)), all_there ks ls (λ l h. k l (ap (λ b. equals l x || b) h ∙ or-true (equals l x))))
+all_there (x ∷ ks) ls k = (
+  k x (ap (λ b. b || has ks x) (is_own x)),
+  all_there ks ls (λ l h. k l (ap (λ b. equals l x || b) h ∙ or-true (equals l x))),
+)
 
 -- a key that stands before another is another
 pub before_other : (k l : Key) → is_before k l ≡ true → equals k l ≡ false
@@ -80,7 +83,8 @@ rankings_filled : (w : World) → Rise (map student_key w.students) → (ls : Li
     → AllByRecursion (λ l. IfSome l.ranking (IsRanking (map student_key (applicants_of w l.row.key)))) (map (with_fill w) ls)
 rankings_filled w rise [] all = tt
 rankings_filled w rise (l ∷ ls) all =
-    let by_key = ranks_by_key (map student_key (applicants_of w l.row.key)) (rise_kept student_key (λ s. list_any (λ p. has s.choice p.key) (projects_of w l.row.key)) w.students rise) in
+    let by_key = ranks_by_key (map student_key (applicants_of w l.row.key))
+    (rise_kept student_key (λ s. list_any (λ p. has s.choice p.key) (projects_of w l.row.key)) w.students rise) in
     grind (arith, by_key, rankings_filled w rise ls all.1)
 
 -- the ranking of the first round stays
@@ -88,4 +92,5 @@ pub fill_first : (w : World) (l : rows.Lecturer) → (with_fill w l).earlier_ran
 fill_first w l = grind arith
 
 pub filling : (w : World) → Sound w → is_ranking w.phase ≡ true → Sound (changed w Fill)
-filling w g e = sound_kept (with_fill w) (fill_row w) w (fill_first w) (ap project_keys (play_filled w)) g e (rankings_filled w g.students_rise w.lecturers g.rankings)
+filling w g e = sound_kept (with_fill w) (fill_row w) w (fill_first w) (ap project_keys (play_filled w)) g e
+    (rankings_filled w g.students_rise w.lecturers g.rankings)

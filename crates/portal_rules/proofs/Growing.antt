@@ -20,7 +20,8 @@ module _ {X Y : Type 0} (p : X → Bool) (f : X → Y) (xs : List X) (i : ℕ) (
   passed : (b : Bool) → p x ≡ b
       → map f (filter p (take (i + 1) xs)) ≡ map f (filter p (take i xs)) ++ map f (cond b (x ∷ []) [])
   passed b e =
-      ap (λ ys. map f (filter p ys)) (grown xs i x low at) ∙ ap (map f) (filter-append p (take i xs) (x ∷ [])) ∙ map-append f (filter p (take i xs)) (filter p (x ∷ []))
+      ap (λ ys. map f (filter p ys)) (grown xs i x low at) ∙ ap (map f) (filter-append p (take i xs) (x ∷ []))
+      ∙ map-append f (filter p (take i xs)) (filter p (x ∷ []))
       ∙ ap (λ c. map f (filter p (take i xs)) ++ map f (cond c (x ∷ []) [])) e
 
   pub kept_more : p x ≡ true → map f (filter p (take (i + 1) xs)) ≡ map f (filter p (take i xs)) ++ f x ∷ []

@@ -15,7 +15,8 @@ record Hears (v u : Sight) (mine : Bool) (a : Answer) (items : List HeardItem) :
 
 -- a view that is shown where it is another
 shown : (v u : Sight) (seen : List HeardItem) (a : Answer) → ChangeSeen v u seen → Hears v u false a seen
-shown v u seen a (inl (same, none)) = rw none (record { replies = λ rest. ap (λ x. replies_from x rest) (sym same); last = λ rest. ap (λ x. view_from x rest) (sym same) })
+shown v u seen a (inl (same, none)) = rw none
+    (record { replies = λ rest. ap (λ x. replies_from x rest) (sym same); last = λ rest. ap (λ x. view_from x rest) (sym same) })
 shown v u seen a (inr (other, one)) = rw one (record { replies = λ rest. refl; last = λ rest. refl })
 
 -- the caller's own request, and then a view that may be shown
@@ -42,10 +43,14 @@ moved v wish e = grind (arith, own_move v)
 own_hears : (w w' : World) (r : Request) (a : Answer) (seen : List HeardItem) → Answers w r r.wish a w' → (b : Bool)
     → is_move_or_add r.wish ≡ b → SeenIf b (view w r.code) (view w' r.code) seen
     → Hears (view w r.code) (view w' r.code) true a (Asked r.head r.closes r.wish ∷ seen)
-own_hears w w' r a seen s true e see = after_own _ _ _ _ r.wish a seen (answered_by w w' r r.wish a s) (rw (moved (view w r.code) r.wish e) (shown _ _ seen a see))
+own_hears w w' r a seen s true e see = after_own _ _ _ _ r.wish a seen (answered_by w w' r r.wish a s)
+    (rw (moved (view w r.code) r.wish e) (shown _ _ seen a see))
 own_hears w w' r a seen s false e see =
     after_own _ _ _ _ r.wish a seen (answered_by w w' r r.wish a s)
-    (rw see (record { replies = λ rest. ap (λ x. replies_from x rest) (sym (kept w w' r r.wish a s e)); last = λ rest. ap (λ x. view_from x rest) (sym (kept w w' r r.wish a s e)) }))
+    (rw see (record {
+      replies = λ rest. ap (λ x. replies_from x rest) (sym (kept w w' r r.wish a s e));
+      last = λ rest. ap (λ x. view_from x rest) (sym (kept w w' r r.wish a s e));
+    }))
 
 hears : (c : Key) (w w' : World) (r : Request) (a : Answer) (seen : List HeardItem) (b : Bool)
     → equals r.code c ≡ b → (b ≡ true → Answers w r r.wish a w')
@@ -54,7 +59,8 @@ hears : (c : Key) (w w' : World) (r : Request) (a : Answer) (seen : List HeardIt
 hears c w w' r a seen true e s see =
     let at : r.code ≡ c = is_same r.code c e in
     subst (λ k. Hears (view w k) (view w' k) true a (Asked r.head r.closes r.wish ∷ seen)) at
-    (own_hears w w' r a seen (s refl) (is_move_or_add r.wish) refl (subst (λ k. SeenIf (is_move_or_add r.wish) (view w k) (view w' k) seen) (sym at) see))
+    (own_hears w w' r a seen (s refl) (is_move_or_add r.wish) refl
+    (subst (λ k. SeenIf (is_move_or_add r.wish) (view w k) (view w' k) seen) (sym at) see))
 hears c w w' r a seen false e s see = shown _ _ seen a see
 
 -- 503 aside
@@ -80,7 +86,8 @@ answered_to c [] told all = tt
 answered_to c (r ∷ rs) [] all = tt
 answered_to c (r ∷ rs) (a ∷ told) all =
     let rest : AllAnswered (replies_to c rs told) = answered_to c rs told all.1 in
-    elim (equals r.code c) as (λ b. AllAnswered (cond b (a ∷ replies_to c rs told) (replies_to c rs told))) [ true ↦ (all.0, rest) | false ↦ rest ]
+    elim (equals r.code c) as (λ b. AllAnswered
+    (cond b (a ∷ replies_to c rs told) (replies_to c rs told))) [ true ↦ (all.0, rest) | false ↦ rest ]
 
 -- the replies, and the last view, of a whole run
 pub replies_told : (c : Key) (w : World) (asked : List Request) (answers : List Answer) (worlds : List World) (items : List HeardItem)
@@ -96,7 +103,8 @@ replies_told c w (r ∷ rs) (a ∷ answers) (v ∷ worlds) items run all heard =
     rw heard.4 (ap (λ zs. cond (equals r.code c) (a ∷ zs) zs) rest.0 ∙ sym (h.replies heard.1), rest.1 ∙ sym (h.last heard.1))
 replies_told c w asked answers worlds items run all heard = grind arith
 
-pub same_replies : (c : Key) (w v : World) (asked others : List Request) (said said' : List Answer) (after later : List World) (items : List HeardItem)
+pub same_replies : (c : Key) (w v : World) (asked others : List Request) (said said' : List Answer) (after later : List World)
+    (items : List HeardItem)
     → Run w asked said after → AllAnswered (replies_to c asked said) → Heard c w asked after items
     → Run v others said' later → AllAnswered (replies_to c others said') → Heard c v others later items
     → view w c ≡ view v c

@@ -22,11 +22,14 @@ map_swap f g alike [] = refl
 map_swap f g alike (x ∷ xs) = λ i. alike x i ∷ map_swap f g alike xs i
 
 -- what takes part goes by what the first round gave
-module _ (new old : List rows.Student) (to : (p : Key) → given_to new p ≡ given_to old p) (with' : (ps : List ProjectRow) (l : Key) → given_with ps new l ≡ given_with ps old l) where
+module _ (new old : List rows.Student) (to : (p : Key) → given_to new p ≡ given_to old p)
+    (with' : (ps : List ProjectRow) (l : Key) → given_with ps new l ≡ given_with ps old l) where
   pub lecturers_given : (r : Round) (ls : List rows.Lecturer) (ps : List ProjectRow)
       → lecturers_in r ls ps new ≡ lecturers_in r ls ps old
   lecturers_given First ls ps = refl
-  lecturers_given Second ls ps = λ i. filter (λ l. nat_lt 0 l.row.capacity) (map {A = rows.Lecturer} {B = rows.Lecturer} (λ l. record l { row = record l.row { capacity = l.row.capacity - with' ps l.row.key i } }) ls)
+  lecturers_given Second ls ps = λ i. filter (λ l. nat_lt 0 l.row.capacity)
+      (map {A = rows.Lecturer} {B = rows.Lecturer}
+      (λ l. record l { row = record l.row { capacity = l.row.capacity - with' ps l.row.key i } }) ls)
 
   pub projects_given : (r : Round) (ls : List rows.Lecturer) (ps : List ProjectRow)
       → projects_in r ls ps new ≡ projects_in r ls ps old
@@ -59,7 +62,9 @@ module _ (f : rows.Student → rows.Student) (keeps : (s : rows.Student) → (f 
   students_kept Second ss = filter_kept f is_left (λ s. ap is_none (keeps s)) ss
 
 -- a change of lecturers that keeps the row, and goes by it
-module _ (f : rows.Lecturer → rows.Lecturer) (keeps : (l : rows.Lecturer) → (f l).row ≡ l.row) (goes : (ps : List ProjectRow) (ss : List rows.Student) (l : rows.Lecturer) → lowered_lecturer ps ss (f l) ≡ f (lowered_lecturer ps ss l)) where
+module _ (f : rows.Lecturer → rows.Lecturer) (keeps : (l : rows.Lecturer) → (f l).row ≡ l.row)
+    (goes : (ps : List ProjectRow) (ss : List rows.Student) (l : rows.Lecturer)
+    → lowered_lecturer ps ss (f l) ≡ f (lowered_lecturer ps ss l)) where
   pub lecturers_of : (r : Round) (ls : List rows.Lecturer) (ps : List ProjectRow) (ss : List rows.Student)
       → lecturers_in r (map f ls) ps ss ≡ map f (lecturers_in r ls ps ss)
   lecturers_of First ls ps ss = refl
@@ -72,35 +77,44 @@ module _ (f : rows.Lecturer → rows.Lecturer) (keeps : (l : rows.Lecturer) → 
   projects_of First ls ps ss = refl
   projects_of Second ls ps ss =
       let keys : map lecturer_key (lecturers_left (map f ls) ps ss) ≡ map lecturer_key (lecturers_left ls ps ss)
-      = ap (map lecturer_key) (lecturers_of Second ls ps ss) ∙ map_same lecturer_key f (λ l. ap (λ r. r.key) (keeps l)) (lecturers_left ls ps ss) in
+      = ap (map lecturer_key) (lecturers_of Second ls ps ss)
+      ∙ map_same lecturer_key f (λ l. ap (λ r. r.key) (keeps l)) (lecturers_left ls ps ss) in
       λ i. filter (λ p. nat_lt 0 p.capacity && has (keys i) p.lecturer) (map (lowered_project ss) ps)
 
 -- the changes
 
 pub choice_earlier : (k : Key) (list : List Key) (s : rows.Student)
     → (with_choice k list s).earlier_placement ≡ s.earlier_placement
-choice_earlier k list s = elim (equals s.row.key k) as (λ b. (cond b (record s { choice = list }) s).earlier_placement ≡ s.earlier_placement) [ true ↦ refl | false ↦ refl ]
+choice_earlier k list s = elim (equals s.row.key k) as
+    (λ b. (cond b (record s { choice = list }) s).earlier_placement ≡ s.earlier_placement) [ true ↦ refl | false ↦ refl ]
 
 pub place_earlier : (pairs : List (Key × Key)) (s : rows.Student)
     → (with_place pairs s).earlier_placement ≡ s.earlier_placement
-place_earlier pairs s = elim (is_left s) as (λ b. (cond b (record s { placed = placement_in pairs s.row.key }) s).earlier_placement ≡ s.earlier_placement) [ true ↦ refl | false ↦ refl ]
+place_earlier pairs s = elim (is_left s) as
+    (λ b. (cond b (record s { placed = placement_in pairs s.row.key }) s).earlier_placement
+    ≡ s.earlier_placement) [ true ↦ refl | false ↦ refl ]
 
 pub ranking_row : (k : Key) (list : List Key) (l : rows.Lecturer) → (with_ranking k list l).row ≡ l.row
-ranking_row k list l = elim (equals l.row.key k) as (λ b. (cond b (record l { ranking = Some list }) l).row ≡ l.row) [ true ↦ refl | false ↦ refl ]
+ranking_row k list l = elim (equals l.row.key k) as
+    (λ b. (cond b (record l { ranking = Some list }) l).row ≡ l.row) [ true ↦ refl | false ↦ refl ]
 
 ranking_lowered : (k : Key) (list : List Key) (ps : List ProjectRow) (ss : List rows.Student) (l : rows.Lecturer)
     → lowered_lecturer ps ss (with_ranking k list l) ≡ with_ranking k list (lowered_lecturer ps ss l)
 ranking_lowered k list ps ss l =
-    elim (equals l.row.key k) as (λ b. lowered_lecturer ps ss (cond b (record l { ranking = Some list }) l) ≡ cond b (record (lowered_lecturer ps ss l) { ranking = Some list }) (lowered_lecturer ps ss l)) [ true ↦ refl | false ↦ refl ]
+    elim (equals l.row.key k) as (λ b. lowered_lecturer ps ss (cond b (record l { ranking = Some list }) l)
+    ≡ cond b (record (lowered_lecturer ps ss l) { ranking = Some list }) (lowered_lecturer ps ss l)) [ true ↦ refl | false ↦ refl ]
 
 pub fill_row : (w : World) (l : rows.Lecturer) → (with_fill w l).row ≡ l.row
-fill_row w l = elim (is_still_to_rank w l) as (λ b. (cond b (record l { ranking = Some (map student_key (applicants_of w l.row.key)) }) l).row ≡ l.row) [ true ↦ refl | false ↦ refl ]
+fill_row w l = elim (is_still_to_rank w l) as
+    (λ b. (cond b (record l { ranking = Some (map student_key (applicants_of w l.row.key)) }) l).row ≡ l.row) [ true ↦ refl | false ↦ refl ]
 
 fill_lowered : (w : World) (ps : List ProjectRow) (ss : List rows.Student) (l : rows.Lecturer)
     → lowered_lecturer ps ss (with_fill w l) ≡ with_fill w (lowered_lecturer ps ss l)
 fill_lowered w ps ss l =
-    elim (is_still_to_rank w l) as (λ b. lowered_lecturer ps ss (cond b (record l { ranking = Some (map student_key (applicants_of w l.row.key)) }) l)
-    ≡ cond b (record (lowered_lecturer ps ss l) { ranking = Some (map student_key (applicants_of w l.row.key)) }) (lowered_lecturer ps ss l)) [ true ↦ refl | false ↦ refl ]
+    elim (is_still_to_rank w l) as (λ b. lowered_lecturer ps ss
+    (cond b (record l { ranking = Some (map student_key (applicants_of w l.row.key)) }) l)
+    ≡ cond b (record (lowered_lecturer ps ss l) { ranking = Some (map student_key (applicants_of w l.row.key)) })
+    (lowered_lecturer ps ss l)) [ true ↦ refl | false ↦ refl ]
 
 -- a student who is new was given nothing
 
@@ -155,11 +169,14 @@ play_filled w = λ i. record w {
 }
 
 -- of new students the lecturers and the projects that take part know nothing
-pub play_joined : (w : World) (rs : List StudentRow) → in_play (with_students w rs) ≡ record (in_play w) { students = students_in w.round (with_students w rs).students }
+pub play_joined : (w : World) (rs : List StudentRow)
+    → in_play (with_students w rs) ≡ record (in_play w) { students = students_in w.round (with_students w rs).students }
 play_joined w rs =
-    let to : (p : Key) → given_to (with_students w rs).students p ≡ given_to w.students p = λ p. count_new (λ s. is_at p s.earlier_placement) (λ r. refl) rs w.students in
+    let to : (p : Key) → given_to (with_students w rs).students p
+    ≡ given_to w.students p = λ p. count_new (λ s. is_at p s.earlier_placement) (λ r. refl) rs w.students in
     let by : (ps : List ProjectRow) (l : Key) → given_with ps (with_students w rs).students l ≡ given_with ps w.students l
-    = λ ps l. count_new (λ s. list_any (λ p. equals p.lecturer l && is_at p.key s.earlier_placement) ps) (λ r. given_none ps l) rs w.students in
+    = λ ps l. count_new (λ s. list_any (λ p. equals p.lecturer l && is_at p.key s.earlier_placement) ps)
+    (λ r. given_none ps l) rs w.students in
     λ i. record w {
       lecturers = lecturers_given (with_students w rs).students w.students to by w.round w.lecturers w.projects i;
       projects = projects_given (with_students w rs).students w.students to by w.round w.lecturers w.projects i;

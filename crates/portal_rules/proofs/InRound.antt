@@ -27,7 +27,8 @@ projects_rise_by : (r : Round) (ls : List rows.Lecturer) (ps : List ProjectRow) 
     → Rise (map project_key ps) → Rise (map project_key (projects_in r ls ps ss))
 projects_rise_by First ls ps ss rise = rise
 projects_rise_by Second ls ps ss rise =
-    rise_kept project_key (λ p. nat_lt 0 p.capacity && has (map lecturer_key (lecturers_left ls ps ss)) p.lecturer) (map (lowered_project ss) ps)
+    rise_kept project_key (λ p. nat_lt 0 p.capacity && has (map lecturer_key (lecturers_left ls ps ss)) p.lecturer)
+    (map (lowered_project ss) ps)
     (subst Rise (sym (map_same project_key (lowered_project ss) (λ p. refl) ps)) rise)
 
 all_by : (P : rows.Student → Type 0) (r : Round) (ss : List rows.Student) → AllByRecursion P ss
@@ -68,7 +69,8 @@ whole ls [] known = refl
 whole ls (p ∷ ps) known =
     let found : (l : rows.Lecturer) × (find (λ l. equals l.row.key p.lecturer) ls ≡ Some l)
     = finds_one (λ (l : rows.Lecturer). equals l.row.key p.lecturer) ls
-    (any_alike (λ (l : rows.Lecturer). equals l.row.key p.lecturer) (λ l. equals p.lecturer l.row.key) (λ l. is_sym l.row.key p.lecturer) ls ∙ sym (any_map (equals p.lecturer) lecturer_key ls) ∙ known.0) in
+    (any_alike (λ (l : rows.Lecturer). equals l.row.key p.lecturer) (λ l. equals p.lecturer l.row.key) (λ l. is_sym l.row.key p.lecturer) ls
+    ∙ sym (any_map (equals p.lecturer) lecturer_key ls) ∙ known.0) in
     rw found.1 (ap (λ ks. p.key ∷ ks) (whole ls ps known.1))
 
 pub known_left : (q : ProjectRow → Bool) (ks : List Key) (ps : List ProjectRow)
@@ -81,8 +83,10 @@ known_in : (r : Round) (ls : List rows.Lecturer) (ps : List ProjectRow) (ss : Li
     → AllByRecursion (λ p. has (map lecturer_key ls) p.lecturer ≡ true) ps
     → AllByRecursion (λ p. has (map lecturer_key (lecturers_in r ls ps ss)) p.lecturer ≡ true) (projects_in r ls ps ss)
 known_in First ls ps ss known = known
-known_in Second ls ps ss known = known_left (λ p. nat_lt 0 p.capacity) (map lecturer_key (lecturers_left ls ps ss)) (map (lowered_project ss) ps)
+known_in Second ls ps ss known = known_left (λ p. nat_lt 0 p.capacity) (map lecturer_key (lecturers_left ls ps ss))
+    (map (lowered_project ss) ps)
 
 pub catalogue_whole : (w : World) → Sound w
     → map (λ (l : Listing). l.key) (catalogue w) ≡ map project_key (in_play w).projects
-catalogue_whole w g = whole (in_play w).lecturers (in_play w).projects (known_in w.round w.lecturers w.projects w.students g.lecturers_known)
+catalogue_whole w g = whole (in_play w).lecturers (in_play w).projects
+    (known_in w.round w.lecturers w.projects w.students g.lecturers_known)

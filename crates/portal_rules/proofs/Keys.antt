@@ -40,5 +40,6 @@ pub one_row : {X : Type 0} (key : X → Key) (p q : X → Bool) (xs : List X) (a
 one_row key p q [] a b rise ea eb same = cc
 one_row {X} key p q (x ∷ xs) a b rise ea eb same =
     let later : AllByRecursion (λ y. is_before (key x) (key y) ≡ true) xs = all_unmap (λ l. is_before (key x) l ≡ true) key xs rise.0 in
-    let behind : (r : X → Bool) (c : X) → find r xs ≡ Some c → key x ≡ key c → ⊥ = λ r c f e. not_before_itself (key x) (subst (λ l. is_before (key x) l ≡ true) (sym e) (found_all _ r xs c later f)) in
+    let behind : (r : X → Bool) (c : X) → find r xs ≡ Some c → key x ≡ key c
+    → ⊥ = λ r c f e. not_before_itself (key x) (subst (λ l. is_before (key x) l ≡ true) (sym e) (found_all _ r xs c later f)) in
     grind (arith, behind p a, behind q b, one_row key p q xs a b rise.1)

@@ -43,7 +43,8 @@ module _ {X : Type 0} where
   filtered : (p : X → Bool) (xs : List X) → AllByRecursion (λ x. p x ≡ true → Contains (filter p xs) x) xs
   filtered p [] = tt
   filtered p (x ∷ xs) =
-      elim (p x) as (λ b. (b ≡ true → Contains (cond b (x ∷ filter p xs) (filter p xs)) x) × AllByRecursion (λ y. p y ≡ true → Contains (cond b (x ∷ filter p xs) (filter p xs)) y) xs) [
+      elim (p x) as (λ b. (b ≡ true → Contains (cond b (x ∷ filter p xs) (filter p xs)) x)
+      × AllByRecursion (λ y. p y ≡ true → Contains (cond b (x ∷ filter p xs) (filter p xs)) y) xs) [
         | true ↦ (λ e. here x (filter p xs), all_weaker _ _ (λ y h e. later x (filter p xs) y (h e)) xs (filtered p xs))
         | false ↦ (λ e. cc, filtered p xs)
       ]
@@ -61,9 +62,14 @@ module _ {X Y : Type 0} (f : X → Option Y) where
   shown_of : (xs : List X) → AllByRecursion (λ x. (y : Y) → f x ≡ Some y → Contains (filter_map f xs) y) xs
   shown_of [] = tt
   shown_of (x ∷ xs) =
-      elim (f x) as (λ o. ((y : Y) → o ≡ Some y → Contains (cons_option o (filter_map f xs)) y) × AllByRecursion (λ z. (y : Y) → f z ≡ Some y → Contains (cons_option o (filter_map f xs)) y) xs) [
+      elim (f x) as (λ o. ((y : Y) → o ≡ Some y → Contains (cons_option o (filter_map f xs)) y)
+      × AllByRecursion (λ z. (y : Y) → f z ≡ Some y → Contains (cons_option o (filter_map f xs)) y) xs) [
         | None ↦ (λ y e. cc, shown_of xs)
-        | Some a ↦ (λ y e. let same : a ≡ y = cc in subst (Contains (a ∷ filter_map f xs)) same (here a (filter_map f xs)), all_weaker _ _ (λ z h y e. later a (filter_map f xs) y (h y e)) xs (shown_of xs))
+        | Some a ↦ (
+          λ y e. let same : a ≡ y = cc in
+              subst (Contains (a ∷ filter_map f xs)) same (here a (filter_map f xs)),
+          all_weaker _ _ (λ z h y e. later a (filter_map f xs) y (h y e)) xs (shown_of xs),
+        )
       ]
 
   all_shown : (P : Y → Type 0) (xs : List X) → AllByRecursion (λ x. (y : Y) → f x ≡ Some y → P y) xs
@@ -104,12 +110,14 @@ module _ (w v : World) (g : Grows w v) (good : Good v) where
           → is_at p (shown_placement w.phase s) ≡ true → Contains (persons (placed_at v p)) (person_of s)
       each s t there k h =
           subst (Contains (persons (placed_at v p))) (λ i. record { key = (k.0 i).key; name = (k.0 i).name })
-          (mapped person_of (placed_at v p) t (one_of _ v.students t (filtered (λ s. is_at p (shown_placement v.phase s)) v.students) there (place s t k (shown_placement w.phase s) refl h)))
+          (mapped person_of (placed_at v p) t (one_of _ v.students t (filtered (λ s. is_at p (shown_placement v.phase s)) v.students) there
+          (place s t k (shown_placement w.phase s) refl h)))
 
   at_projects : (l m : rows.Lecturer) → m.row ≡ l.row → (p : Key) (s : Person)
       → IsShownAt (lecturer_sees w l).placed p s → IsShownAt (lecturer_sees v m).placed p s
   at_projects l m same p s (there, entry, one) =
-      one_of (λ (x : Key × List Person). (s : Person) → Contains x.1 s → IsShownAt (lecturer_sees v m).placed x.0 s) (lecturer_sees w l).placed (p, there)
+      one_of (λ (x : Key × List Person). (s : Person) → Contains x.1 s → IsShownAt (lecturer_sees v m).placed x.0 s)
+      (lecturer_sees w l).placed (p, there)
       (all_map _ (λ (q : ProjectRow). (q.key, persons (placed_at w q.key))) (projects_of w l.row.key)
       (all_filtered _ (λ q. equals q.lecturer l.row.key) w.projects (all_weaker _ _ each w.projects g.projects)))
       entry s one
@@ -117,7 +125,9 @@ module _ (w v : World) (g : Grows w v) (good : Good v) where
       each : (q : ProjectRow) → Contains v.projects q → equals q.lecturer l.row.key ≡ true → (s : Person)
           → Contains (persons (placed_at w q.key)) s → IsShownAt (lecturer_sees v m).placed q.key s
       each q known own s one =
-          let mine : Contains (projects_of v m.row.key) q = one_of _ v.projects q (filtered (λ q. equals q.lecturer m.row.key) v.projects) known (ap (λ r. equals q.lecturer r.key) same ∙ own) in (
+          let mine : Contains (projects_of v m.row.key) q =
+          one_of _ v.projects q (filtered (λ q. equals q.lecturer m.row.key) v.projects) known
+          (ap (λ r. equals q.lecturer r.key) same ∙ own) in (
             persons (placed_at v q.key),
             mapped (λ (q : ProjectRow). (q.key, persons (placed_at v q.key))) (projects_of v m.row.key) q mine,
             one_of _ (persons (placed_at w q.key)) s (at_project q.key) one,
@@ -129,7 +139,8 @@ module _ (w v : World) (g : Grows w v) (good : Good v) where
       each : (s t : rows.Student) → Contains v.students t → KeepsPlace w.phase v.phase s t → (y : Key × Key)
           → option_map (λ p. (s.row.key, p)) (shown_placement w.phase s) ≡ Some y → Contains (pairs_of v) y
       each s t there k y e =
-          one_of _ v.students t (shown_of (λ t. option_map (λ p. (t.row.key, p)) (shown_placement v.phase t)) v.students) there y (at (shown_placement w.phase s) refl e)
+          one_of _ v.students t (shown_of (λ t. option_map (λ p. (t.row.key, p)) (shown_placement v.phase t)) v.students) there y
+          (at (shown_placement w.phase s) refl e)
         where
           at : (o : Option Key) → shown_placement w.phase s ≡ o → option_map (λ p. (s.row.key, p)) o ≡ Some y
               → option_map (λ p. (t.row.key, p)) (shown_placement v.phase t) ≡ Some y
@@ -187,7 +198,12 @@ lasts before after shut s t same p h = grind arith
 
 module _ (w : World) where
   whole : Grows w w
-  whole = record { office = refl; lecturers = kept SameLecturer (λ l. refl) w.lecturers; projects = contained w.projects; students = kept _ (λ s. (refl, λ p e. e)) w.students }
+  whole = record {
+    office = refl;
+    lecturers = kept SameLecturer (λ l. refl) w.lecturers;
+    projects = contained w.projects;
+    students = kept _ (λ s. (refl, λ p e. e)) w.students;
+  }
 
   other_students : (after : Phase) (ss : List rows.Student)
       → AllByRecursion (Mate (KeepsPlace w.phase after) ss) w.students
@@ -199,7 +215,8 @@ module _ (w : World) where
   other_lecturers ls all = record { office = refl; lecturers = all; projects = whole.projects; students = whole.students }
 
   to_phase : (before after : Phase) → w.phase ≡ before → is_published before ≡ false → Grows w (changed w (To after))
-  to_phase before after at shut = other_students after w.students (kept _ (λ s. (refl, lasts w.phase after (ap is_published at ∙ shut) s s refl)) w.students)
+  to_phase before after at shut = other_students after w.students
+      (kept _ (λ s. (refl, lasts w.phase after (ap is_published at ∙ shut) s s refl)) w.students)
 
   in_either : (u : World) → Grows w u → (r : Round) → Grows w (in_first r u w)
   in_either u g First = g
@@ -209,13 +226,21 @@ module _ (w : World) where
   chosen k list now =
       other_students w.phase (map (with_choice k list) w.students)
       (renewed _ (with_choice k list)
-      (λ s. (choice_row k list s, lasts w.phase w.phase (choosing_open w.phase now).1 s (with_choice k list s) (ap (λ x. x.placed) (choice_first k list s)))) w.students)
+      (λ s. (
+        choice_row k list s,
+        lasts w.phase w.phase (choosing_open w.phase now).1 s (with_choice k list s)
+            (ap (λ x. x.placed) (choice_first k list s)),
+      )) w.students)
 
   published : (pairs : List (Key × Key)) → w.phase ≡ Ranking → Grows w (changed w (Placements pairs))
   published pairs at =
       other_students Published (map (with_place pairs) w.students)
       (renewed _ (with_place pairs)
-      (λ s. (place_row pairs s, lasts w.phase Published (ap is_published at) s (with_place pairs s) (ap (λ x. x.placed) (place_first pairs s)))) w.students)
+      (λ s. (
+        place_row pairs s,
+        lasts w.phase Published (ap is_published at) s (with_place pairs s)
+            (ap (λ x. x.placed) (place_first pairs s)),
+      )) w.students)
 
   -- the place of the first round is shown on in the second
   second : Good w → w.round ≡ First → w.phase ≡ Published → Grows w (changed w SecondRound)
@@ -225,7 +250,8 @@ module _ (w : World) where
         office = refl;
         lecturers = renewed SameLecturer ranked_before (λ l. refl) w.lecturers;
         projects = contained w.projects;
-        students = all_weaker _ _ (λ s h. (placed_before s, mapped placed_before w.students s h.0, (refl, λ p e. shown s h.1.1 p e))) w.students
+        students = all_weaker _ _ (λ s h. (placed_before s, mapped placed_before w.students s h.0, (refl, λ p e. shown s h.1.1 p e)))
+            w.students
             (all_both _ _ w.students (contained w.students) (good.sound.no_earlier_lists (ap is_second one)));
       })
     where
@@ -244,16 +270,29 @@ module _ (w v : World) (good : Good w) where
 
   grows : (x : Caller) (ask : AbstractCall) → StepLeaves w (decision (sight_of w x) ask).act v → Grows w v
   grows NoCaller ask = becomes w (whole w)
-  grows (StudentCaller s) ask = by_student Leads (λ ask reply. becomes w (whole w)) (student_sees w s) (λ list now left none. becomes _ (chosen w s.row.key list now)) ask
+  grows (StudentCaller s) ask = by_student Leads (λ ask reply. becomes w (whole w)) (student_sees w s)
+      (λ list now left none. becomes _ (chosen w s.row.key list now)) ask
   grows (LecturerCaller l) ask =
       by_lecturer Leads (λ ask reply. becomes w (whole w)) (lecturer_sees w l)
-      (λ list now none. becomes _ (other_lecturers w _ (renewed SameLecturer (with_ranking l.row.key list) (ranking_row l.row.key list) w.lecturers))) ask
+      (λ list now none. becomes _ (other_lecturers w _
+      (renewed SameLecturer (with_ranking l.row.key list) (ranking_row l.row.key list) w.lecturers))) ask
   grows OfficeCaller ask =
       by_office Leads (λ ask reply. becomes w (whole w)) (office_sees w)
       (record {
-        lecturers = λ rs new n now took. becomes _ (in_either w _ (other_lecturers w _ (all_weaker _ _ (λ l there. (l, there, refl)) w.lecturers (all_beside lecturer_key (map new_lecturer new) w.lecturers))) w.round);
-        projects = λ rs new n now took. becomes _ (in_either w _ (record { office = refl; lecturers = (whole w).lecturers; projects = all_beside project_key new w.projects; students = (whole w).students }) w.round);
-        students = λ rs new n now took. becomes _ (in_either w _ (other_students w w.phase _ (all_weaker _ _ (λ s there. (s, there, (refl, λ p e. e))) w.students (all_beside student_key (map new_student new) w.students))) w.round);
+        lecturers = λ rs new n now took. becomes _
+            (in_either w _ (other_lecturers w _ (all_weaker _ _ (λ l there. (l, there, refl)) w.lecturers
+            (all_beside lecturer_key (map new_lecturer new) w.lecturers))) w.round);
+        projects = λ rs new n now took. becomes _
+            (in_either w _ (record {
+              office = refl;
+              lecturers = (whole w).lecturers;
+              projects = all_beside project_key new w.projects;
+              students = (whole w).students;
+            }) w.round);
+        students = λ rs new n now took. becomes _
+            (in_either w _ (other_students w w.phase _
+            (all_weaker _ _ (λ s there. (s, there, (refl, λ p e. e))) w.students (all_beside student_key (map new_student new) w.students)))
+            w.round);
         choosing = λ named at. becomes _ (to_phase w Setup Choosing at refl);
         ranking = λ named at. becomes _ (to_phase w Choosing Ranking at refl);
         published = λ named at none left. becomes _ (published w left.0 at) left.1;
@@ -264,7 +303,8 @@ module _ (w v : World) (good : Good w) where
 
 pub step_still : (w v : World) (c code : Key) (ask : AbstractCall) (reply : Answer) → Good w → Step w code ask reply v
     → ShowsStill (view w c) (view v c)
-step_still w v c code ask reply g s = still w v (grows w v g (caller w code) ask s.left) (step_good w v code ask reply g s) c (caller w c) refl
+step_still w v c code ask reply g s = still w v (grows w v g (caller w code) ask s.left) (step_good w v code ask reply g s) c
+    (caller w c) refl
 
 -- a run
 
@@ -280,11 +320,13 @@ StillGood w c v = Good v × ShowsStill (view w c) (view v c)
 
 pub run_still : (c : Key) (w : World) (asked : List Request) (told : List Answer) (after : List World) → Good w
     → Run w asked told after → AllByRecursion (λ v. ShowsStill (view w c) (view v c)) after
-run_still c w asked told after g run = all_weaker _ _ (λ v h. h.1) after (run_keeps (StillGood w c) step w asked told after (g, still w w (whole w) g c (caller w c) refl) run)
+run_still c w asked told after g run = all_weaker _ _ (λ v h. h.1) after
+    (run_keeps (StillGood w c) step w asked told after (g, still w w (whole w) g c (caller w c) refl) run)
   where
     step : (u v : World) (code : Key) (ask : AbstractCall) (reply : Answer) → StillGood w c u → Step u code ask reply v
         → StillGood w c v
-    step u v code ask reply (good, so_far) s = (step_good u v code ask reply good s, still_then (view w c) (view u c) (view v c) so_far (step_still u v c code ask reply good s))
+    step u v code ask reply (good, so_far) s =
+        (step_good u v code ask reply good s, still_then (view w c) (view u c) (view v c) so_far (step_still u v c code ask reply good s))
 
 -- the world in which the first round was published, and any of the second
 
@@ -295,7 +337,8 @@ first_still w c g =
       office = refl;
       lecturers = all_map _ first_published w.lecturers (all_weaker _ _ (λ l there. (l, there, refl)) w.lecturers (contained w.lecturers));
       projects = contained w.projects;
-      students = all_map _ first_placed w.students (all_weaker _ _ (λ s there. (s, there, (refl, λ p e. placed s p e))) w.students (contained w.students));
+      students = all_map _ first_placed w.students
+          (all_weaker _ _ (λ s there. (s, there, (refl, λ p e. placed s p e))) w.students (contained w.students));
     })
     g c (caller (first w) c) refl
   where

@@ -25,7 +25,6 @@ pub mod Steps
 mod Lasting
 pub mod Opening
 pub mod Once
-pub mod Refreshed
 pub mod Reorder
 mod Taken
 pub mod Similar

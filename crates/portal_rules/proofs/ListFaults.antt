@@ -5,6 +5,7 @@ use Rattle.portal_rules.proofs.Base.{None, codes, nat_tests, AllByRecursion, Lis
 use Rattle.portal_rules.proofs.Base.{AreDistinct, in_catalogue, is_applicant, lacks_one, ListFault, fault_at, or_later}
 use Rattle.portal_rules.proofs.Base.{first_wrong, choice_fault, or_missing, ranking_fault, length-append, wrong_choice}
 use Rattle.portal_rules.proofs.Base.{wrong_rank, NoneWrong, IsFirstWrong}
+use Rattle.spa_rows.specs.Limits.{longest_choice}
 use Rattle.portal_rules.proofs.AllLaws.{all_weaker, all_both, none_after, none_is, not_first, split_append}
 
 -- the next key is wrong, or a later one is
@@ -23,7 +24,8 @@ module _ (wrong : List Key → Key → Option (List ℕ)) where
 
   abbrev Found : List Key → List Key → ListFault → Type 0
   Found earlier list f =
-      (front : List Key) × (k : Key) × (rest : List Key) × (list ≡ front ++ k ∷ rest) × (f.at ≡ length earlier + (length front + 1)) × (wrong (earlier ++ front) k ≡ Some f.word) × NoneFrom earlier front
+      (front : List Key) × (k : Key) × (rest : List Key) × (list ≡ front ++ k ∷ rest) × (f.at ≡ length earlier + (length front + 1))
+      × (wrong (earlier ++ front) k ≡ Some f.word) × NoneFrom earlier front
 
   none_in : (earlier : List Key) → NoneFrom earlier []
   none_in earlier [] k after e = cc
@@ -37,7 +39,8 @@ module _ (wrong : List Key → Key → Option (List ℕ)) where
   none_more earlier k ks good more (x ∷ before) y after e =
       let one : k ≡ x = cc in
       let rest : ks ≡ before ++ y ∷ after = cc in
-      subst (λ z. wrong (earlier ++ z ∷ before) y ≡ None) one (subst (λ xs. wrong xs y ≡ None) (append_assoc earlier (k ∷ []) before) (more before y after rest))
+      subst (λ z. wrong (earlier ++ z ∷ before) y ≡ None) one
+      (subst (λ xs. wrong xs y ≡ None) (append_assoc earlier (k ∷ []) before) (more before y after rest))
 
   later : (earlier : List Key) (k : Key) (ks : List Key) (f : ListFault) → wrong earlier k ≡ None
       → Found (earlier ++ k ∷ []) ks f → Found earlier (k ∷ ks) f
@@ -84,12 +87,14 @@ module _ (wrong : List Key → Key → Option (List ℕ)) where
 -- a missing applicant is told only if no key is wrong
 pub rank_first : (applicants : List (Key × List Person)) (list : List Key) (f : ListFault)
     → ranking_fault applicants list ≡ Some f
-    → IsFirstWrong (wrong_rank applicants) list f ⊎ ((f ≡ fault_at 0 (codes "missing")) × NoneWrong (wrong_rank applicants) list × (lacks_one applicants list ≡ true))
+    → IsFirstWrong (wrong_rank applicants) list f
+    ⊎ ((f ≡ fault_at 0 (codes "missing")) × NoneWrong (wrong_rank applicants) list × (lacks_one applicants list ≡ true))
 rank_first applicants list f e = go (first_wrong (wrong_rank applicants) [] list) refl (lacks_one applicants list) refl e
   where
     go : (o : Option ListFault) → first_wrong (wrong_rank applicants) [] list ≡ o → (lacks : Bool)
         → lacks_one applicants list ≡ lacks → or_missing lacks o ≡ Some f
-        → IsFirstWrong (wrong_rank applicants) list f ⊎ ((f ≡ fault_at 0 (codes "missing")) × NoneWrong (wrong_rank applicants) list × (lacks_one applicants list ≡ true))
+        → IsFirstWrong (wrong_rank applicants) list f
+        ⊎ ((f ≡ fault_at 0 (codes "missing")) × NoneWrong (wrong_rank applicants) list × (lacks_one applicants list ≡ true))
     go (Some g) so lacks l told = inl (is_first (wrong_rank applicants) list f (so ∙ told))
     go None so true l told = inr (cc, none_wrong (wrong_rank applicants) [] list so, l)
     go None so false l told = cc
@@ -108,7 +113,8 @@ module _ (wrong : List Key → Key → Option (List ℕ)) (passes : Key → Bool
       let parts = untold (length earlier + 1) (wrong earlier k) (first_wrong wrong (earlier ++ k ∷ []) ks) e in
       let here = right earlier k parts.0 in
       let rest = fits right (earlier ++ k ∷ []) ks parts.1 in
-      let apart : AllByRecursion (λ l. (has earlier l ≡ false) × (equals l k ≡ false)) ks = all_weaker _ _ (λ l h. split_append earlier k l h) ks rest.new in
+      let apart : AllByRecursion (λ l. (has earlier l ≡ false) × (equals l k ≡ false)) ks =
+      all_weaker _ _ (λ l h. split_append earlier k l h) ks rest.new in
       record {
         only = (here.0, rest.only);
         once = (none_is k ks (all_weaker _ _ (λ l h. h.1) ks apart), rest.once);
@@ -127,29 +133,35 @@ module _ (wrong : List Key → Key → Option (List ℕ)) (passes : Key → Bool
         once = f.once.1;
         new = all_weaker _ _ (λ l h. none_after earlier k l h.0 h.1) ks (all_both _ _ ks f.new.1 (not_first k ks f.once));
       } in
-      rw (right earlier k (omega arith) f.only.0 f.new.0) (faultless most right (earlier ++ k ∷ []) ks (omega (arith, length-append earlier (k ∷ []))) rest)
+      rw (right earlier k (omega arith) f.only.0 f.new.0)
+      (faultless most right (earlier ++ k ∷ []) ks (omega (arith, length-append earlier (k ∷ []))) rest)
 
 -- a student's list
 
 module _ (catalogue : List Listing) where
-  few : (earlier list : List Key) → length earlier ≤ 20 → first_wrong (wrong_choice catalogue) earlier list ≡ None
-      → length earlier + length list ≤ 20
+  few : (earlier list : List Key) → length earlier ≤ longest_choice → first_wrong (wrong_choice catalogue) earlier list ≡ None
+      → length earlier + length list ≤ longest_choice
   few earlier [] low e = omega arith
   few earlier (k ∷ ks) low e =
-      let parts = untold (length earlier + 1) (wrong_choice catalogue earlier k) (first_wrong (wrong_choice catalogue) (earlier ++ k ∷ []) ks) e in
+      let parts = untold (length earlier + 1) (wrong_choice catalogue earlier k)
+      (first_wrong (wrong_choice catalogue) (earlier ++ k ∷ []) ks) e in
       let one = parts.0 in
-      let room : length earlier + 1 ≤ 20 = grind (arith, nat_tests) in
+      let room : length earlier + 1 ≤ longest_choice = grind (arith, nat_tests) in
       let long = length-append earlier (k ∷ []) in
       let all = few (earlier ++ k ∷ []) ks (omega arith) parts.1 in
       omega arith
 
   pub chosen : (list : List Key) → choice_fault catalogue list ≡ None
-      → (length list ≤ 20) × Fits (in_catalogue catalogue) [] list
-  chosen list e = ((let all = few [] list (omega arith) e in omega arith), fits (wrong_choice catalogue) (in_catalogue catalogue) (λ earlier k good. grind arith) [] list e)
+      → (length list ≤ longest_choice) × Fits (in_catalogue catalogue) [] list
+  chosen list e = (
+    (let all = few [] list (omega arith) e in omega arith),
+    fits (wrong_choice catalogue) (in_catalogue catalogue) (λ earlier k good. grind arith) [] list e,
+  )
 
-  pub choice_taken : (list : List Key) → length list ≤ 20 → Fits (in_catalogue catalogue) [] list
+  pub choice_taken : (list : List Key) → length list ≤ longest_choice → Fits (in_catalogue catalogue) [] list
       → choice_fault catalogue list ≡ None
-  choice_taken list low f = faultless (wrong_choice catalogue) (in_catalogue catalogue) 20 (λ earlier k room known new. grind (arith, nat_tests)) [] list (omega arith) f
+  choice_taken list low f = faultless (wrong_choice catalogue) (in_catalogue catalogue) longest_choice
+      (λ earlier k room known new. grind (arith, nat_tests)) [] list (omega arith) f
 
 -- a lecturer's ranking
 
@@ -162,4 +174,8 @@ module _ (applicants : List (Key × List Person)) where
 
   pub ranking_taken : (list : List Key) → Fits (is_applicant applicants) [] list → lacks_one applicants list ≡ false
       → ranking_fault applicants list ≡ None
-  ranking_taken list f all = rw (faultless (wrong_rank applicants) (is_applicant applicants) (length list) (λ earlier k low known new. rw (known, new) refl) [] list (omega arith) f, all) refl
+  ranking_taken list f all = rw (
+    faultless (wrong_rank applicants) (is_applicant applicants) (length list)
+        (λ earlier k low known new. rw (known, new) refl) [] list (omega arith) f,
+    all,
+  ) refl

@@ -22,7 +22,11 @@ sight_coded : Coded Sight
 sight_coded = hlevel codes
 
 pub sight_decided : Decided Sight
-sight_decided x y = elim (code_decided (sight_coded.code x) (sight_coded.code y)) [ inl e ↦ inl (sight_coded.inj x y e) | inr n ↦ inr (λ e. n (ap sight_coded.code e)) ]
+sight_decided x y = elim (code_decided (sight_coded.code x) (sight_coded.code y)) [
+  | inl e ↦ inl (sight_coded.inj x y e)
+  | inr n ↦ inr
+      (λ e. n (ap sight_coded.code e))
+]
 
 -- there is such a list
 
@@ -39,7 +43,8 @@ pub heard_there : (c : Key) (w : World) (asked : List Request) (worlds : List Wo
 heard_there c w [] worlds = ([], refl)
 heard_there c w (r ∷ rs) [] = ([], refl)
 heard_there c w (r ∷ rs) (v ∷ worlds) =
-    let seen : (seen : List HeardItem) × SeenIf (may_show c r) (view w c) (view v c) seen = seen_there (may_show c r) (view w c) (view v c) in
+    let seen : (seen : List HeardItem) × SeenIf (may_show c r) (view w c) (view v c) seen =
+    seen_there (may_show c r) (view w c) (view v c) in
     let rest : (items : List HeardItem) × Heard c v rs worlds items = heard_there c v rs worlds in
     ((own_item c r ++ seen.0) ++ rest.0, (own_item c r ++ seen.0, rest.0, (seen.0, seen.1, refl), rest.1, refl))
 
@@ -53,6 +58,7 @@ pub heard_once : (c : Key) (w : World) (asked : List Request) (worlds : List Wor
 heard_once c w [] worlds a b x y = x ∙ sym y
 heard_once c w (r ∷ rs) [] a b x y = x ∙ sym y
 heard_once c w (r ∷ rs) (v ∷ worlds) a b x y =
-    let firsts : x.0 ≡ y.0 = x.2.2 ∙ ap (λ s. own_item c r ++ s) (seen_once (may_show c r) (view w c) (view v c) x.2.0 y.2.0 x.2.1 y.2.1) ∙ sym y.2.2 in
+    let firsts : x.0 ≡ y.0 = x.2.2 ∙ ap (λ s. own_item c r ++ s) (seen_once (may_show c r) (view w c) (view v c) x.2.0 y.2.0 x.2.1 y.2.1)
+    ∙ sym y.2.2 in
     let rests : x.1 ≡ y.1 = heard_once c v rs worlds x.1 y.1 x.3 y.3 in
     x.4 ∙ (λ i. firsts i ++ rests i) ∙ sym y.4

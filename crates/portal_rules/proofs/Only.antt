@@ -41,18 +41,21 @@ module _ (keys : List Key) where
   same_key (Some a) (Some b) e low =
       let number : number_in keys a ≡ number_in keys b = cc in
       let here : number_in keys a < length keys = low (number_in keys a) refl in
-      ap Some (sym (number_is keys a here) ∙ ap (λ n. get_or keys n []) number ∙ number_is keys b (subst (λ n. n < length keys) number here))
+      ap Some (sym (number_is keys a here) ∙ ap (λ n. get_or keys n []) number
+      ∙ number_is keys b (subst (λ n. n < length keys) number here))
   same_key a b e low = grind arith
 
   same_places : (p q : List (Key × Key)) (ss : List rows.Student)
       → map number_of (map (with_place p) ss) ≡ map number_of (map (with_place q) ss)
-      → ((s n : ℕ) → get_or (map number_of (map (with_place p) ss)) s None ≡ Some n → n < length keys) → map (with_place p) ss ≡ map (with_place q) ss
+      → ((s n : ℕ) → get_or (map number_of (map (with_place p) ss)) s None ≡ Some n → n < length keys)
+      → map (with_place p) ss ≡ map (with_place q) ss
   same_places p q [] e low = refl
   same_places p q (x ∷ ss) e low =
       let here : number_of (with_place p x) ≡ number_of (with_place q x) = cc in
       let rest : map number_of (map (with_place p) ss) ≡ map number_of (map (with_place q) ss) = cc in
       let one : with_place p x ≡ with_place q x
-      = (elim (is_left x) as (λ b. number_of (cond b (record x { placed = placement_in p x.row.key }) x) ≡ number_of (cond b (record x { placed = placement_in q x.row.key }) x)
+      = (elim (is_left x) as (λ b. number_of (cond b (record x { placed = placement_in p x.row.key }) x)
+      ≡ number_of (cond b (record x { placed = placement_in q x.row.key }) x)
       → ((n : ℕ) → number_of (cond b (record x { placed = placement_in p x.row.key }) x) ≡ Some n → n < length keys)
       → cond b (record x { placed = placement_in p x.row.key }) x ≡ cond b (record x { placed = placement_in q x.row.key }) x) [
         | true ↦ λ e below. ap (λ o. record x { placed = o }) (same_key (placement_in p x.row.key) (placement_in q x.row.key) e below)
@@ -85,17 +88,21 @@ with_room (x ∷ ns) (suc n) h = let rest : n < length ns = with_room ns n h in 
 placed_known : (w : World) (m : List (Option ℕ)) → IsMatching (instance w) m → (s n : ℕ) → project_of m s ≡ Some n
     → n < length (project_keys (in_play w))
 placed_known w m matching s n e =
-    let low : n < length (map (λ (p : ProjectRow). p.capacity) (in_play w).projects) = with_room _ n (omega (arith, counted m s n e, matching.projects n)) in
+    let low : n < length (map (λ (p : ProjectRow). p.capacity) (in_play w).projects) =
+    with_room _ n (omega (arith, counted m s n e, matching.projects n)) in
     omega (arith, low, length-map (in_play w).projects (λ (p : ProjectRow). p.capacity), length-map (in_play w).projects project_key)
 
 published_once : (w : World) (p q : List (Key × Key)) → IsBest (instance w) (matching_of (changed w (Placements p)))
     → IsBest (instance w) (matching_of (changed w (Placements q))) → changed w (Placements p) ≡ changed w (Placements q)
 published_once w p q a b =
-    let one : IsBest (instance w) (places_of (changed (in_play w) (Placements p))) = subst (λ u. IsBest (instance w) (places_of u)) (play_placed w p) a in
-    let other : IsBest (instance w) (places_of (changed (in_play w) (Placements q))) = subst (λ u. IsBest (instance w) (places_of u)) (play_placed w q) b in
+    let one : IsBest (instance w) (places_of (changed (in_play w) (Placements p))) =
+    subst (λ u. IsBest (instance w) (places_of u)) (play_placed w p) a in
+    let other : IsBest (instance w) (places_of (changed (in_play w) (Placements q))) =
+    subst (λ u. IsBest (instance w) (places_of u)) (play_placed w q) b in
     ap (λ ss. record (changed w (Placements p)) { students = ss })
     (in_whole w.round p q w.students
-    (same_places (project_keys (in_play w)) p q (in_play w).students (best_is_one (instance w) _ _ one other) (placed_known w _ one.stable.matching)))
+    (same_places (project_keys (in_play w)) p q (in_play w).students (best_is_one (instance w) _ _ one other)
+    (placed_known w _ one.stable.matching)))
 
 one_end : (w v u : World) (a : Act) → StepLeaves w a v → StepLeaves w a u → v ≡ u
 one_end w v u Nothing l m = l ∙ sym m
@@ -103,7 +110,8 @@ one_end w v u (Apply change) l m = l ∙ sym m
 one_end w v u (Render sheet) l m = l ∙ sym m
 one_end w v u Publish l m =
     l.1
-    ∙ published_once w l.0 m.0 (subst (λ x. IsBest (instance w) (matching_of x)) l.1 l.2) (subst (λ x. IsBest (instance w) (matching_of x)) m.1 m.2)
+    ∙ published_once w l.0 m.0 (subst (λ x. IsBest (instance w) (matching_of x)) l.1 l.2)
+    (subst (λ x. IsBest (instance w) (matching_of x)) m.1 m.2)
     ∙ sym m.1
 
 pub step_once : (w v u : World) (code : Key) (ask : AbstractCall) (a b : Answer) → Step w code ask a v
@@ -122,6 +130,7 @@ pub one_run : (w : World) (asked : List Request) (told said : List Answer) (afte
 one_run w [] [] [] [] [] run all other all' = (refl, refl)
 one_run w (r ∷ rs) (a ∷ told) (b ∷ said) (v ∷ after) (u ∷ later) run all other all' =
     let here : (a ≡ b) × (v ≡ u) = answered_once w v u r r.wish a b (really w v r a run.0 all.0) (really w u r b other.0 all'.0) in
-    let rest : (told ≡ said) × (after ≡ later) = one_run v rs told said after later run.1 all.1 (subst (λ x. Run x rs said later) (sym here.1) other.1) all'.1 in
+    let rest : (told ≡ said) × (after ≡ later) =
+    one_run v rs told said after later run.1 all.1 (subst (λ x. Run x rs said later) (sym here.1) other.1) all'.1 in
     (λ i. here.0 i ∷ rest.0 i, λ i. here.1 i ∷ rest.1 i)
 one_run w asked told said after later run all other all' = grind arith

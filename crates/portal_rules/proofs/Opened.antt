@@ -23,7 +23,10 @@ pub first_chosen : (w : World) (k : Key) (list : List Key) → first (changed w 
 first_chosen w k list = λ i. record (first w) { students = map_same first_placed (with_choice k list) (choice_first k list) w.students i }
 
 pub first_ranked : (w : World) (k : Key) (list : List Key) → first (changed w (Ranks k list)) ≡ first w
-first_ranked w k list = λ i. record (first w) { lecturers = map_same first_published (with_ranking k list) (ranking_first k list) w.lecturers i }
+first_ranked w k list = λ i. record (first w) {
+  lecturers = map_same first_published (with_ranking k list)
+      (ranking_first k list) w.lecturers i;
+}
 
 pub first_filled : (w : World) → first (changed w Fill) ≡ first w
 first_filled w = λ i. record (first w) { lecturers = map_same first_published (with_fill w) same w.lecturers i }
@@ -37,35 +40,59 @@ pub first_back : (w : World) → Sound w → w.round ≡ First → w.phase ≡ P
 first_back w g one out = λ i. record w {
   round = sym one i;
   phase = sym out i;
-  lecturers = (map-map first_published ranked_before w.lecturers ∙ map_fixed (λ l. first_published (ranked_before l)) w.lecturers (All-from_recursion (λ l. first_published (ranked_before l) ≡ l) w.lecturers (all_weaker (λ (l : rows.Lecturer). l.earlier_ranking ≡ None) (λ l. first_published (ranked_before l) ≡ l) (λ l e j. record l { earlier_ranking = sym e j }) w.lecturers (g.no_earlier_rankings (ap is_second one))))) i;
-  students = (map-map first_placed placed_before w.students ∙ map_fixed (λ s. first_placed (placed_before s)) w.students (All-from_recursion (λ s. first_placed (placed_before s) ≡ s) w.students (all_weaker (λ (s : rows.Student). (s.earlier_choice ≡ []) × (s.earlier_placement ≡ None)) (λ s. first_placed (placed_before s) ≡ s) (λ s e j. record s { earlier_choice = sym e.0 j; earlier_placement = sym e.1 j }) w.students (g.no_earlier_lists (ap is_second one))))) i;
+  lecturers = (map-map first_published ranked_before w.lecturers
+      ∙ map_fixed (λ l. first_published (ranked_before l)) w.lecturers
+      (All-from_recursion (λ l. first_published (ranked_before l) ≡ l) w.lecturers
+      (all_weaker (λ (l : rows.Lecturer). l.earlier_ranking ≡ None) (λ l. first_published (ranked_before l) ≡ l)
+      (λ l e j. record l { earlier_ranking = sym e j }) w.lecturers (g.no_earlier_rankings (ap is_second one))))) i;
+  students = (map-map first_placed placed_before w.students
+      ∙ map_fixed (λ s. first_placed (placed_before s)) w.students
+      (All-from_recursion (λ s. first_placed (placed_before s) ≡ s) w.students
+      (all_weaker (λ (s : rows.Student). (s.earlier_choice ≡ []) × (s.earlier_placement ≡ None)) (λ s. first_placed (placed_before s) ≡ s)
+      (λ s e j. record s { earlier_choice = sym e.0 j; earlier_placement = sym e.1 j }) w.students
+      (g.no_earlier_lists (ap is_second one))))) i;
 }
 
 opened_sound : (w : World) → Sound w → Sound (opened First Published w)
 opened_sound w g =
-    let students : map student_key (map placed_before w.students) ≡ map student_key w.students = map_same student_key placed_before (λ s. refl) w.students in
-    let lecturers : map lecturer_key (map ranked_before w.lecturers) ≡ map lecturer_key w.lecturers = map_same lecturer_key ranked_before (λ l. refl) w.lecturers in
-    let student_codes : map (λ (s : rows.Student). s.row.code) (map placed_before w.students) ≡ map (λ s. s.row.code) w.students = map_same _ placed_before (λ s. refl) w.students in
-    let lecturer_codes : map (λ (l : rows.Lecturer). l.row.code) (map ranked_before w.lecturers) ≡ map (λ l. l.row.code) w.lecturers = map_same _ ranked_before (λ l. refl) w.lecturers in
+    let students : map student_key (map placed_before w.students)
+    ≡ map student_key w.students = map_same student_key placed_before (λ s. refl) w.students in
+    let lecturers : map lecturer_key (map ranked_before w.lecturers)
+    ≡ map lecturer_key w.lecturers = map_same lecturer_key ranked_before (λ l. refl) w.lecturers in
+    let student_codes : map (λ (s : rows.Student). s.row.code) (map placed_before w.students)
+    ≡ map (λ s. s.row.code) w.students = map_same _ placed_before (λ s. refl) w.students in
+    let lecturer_codes : map (λ (l : rows.Lecturer). l.row.code) (map ranked_before w.lecturers)
+    ≡ map (λ l. l.row.code) w.lecturers = map_same _ ranked_before (λ l. refl) w.lecturers in
     let keys : List Key = project_keys (in_play (opened First Published w)) in
     let lecturers_rise = subst Rise (sym lecturers) g.lecturers_rise in
     let students_rise = subst Rise (sym students) g.students_rise in
     let lecturer_forms = all_map (λ (l : rows.Lecturer). IsLecturer l.row) ranked_before w.lecturers g.lecturer_forms in
     let student_forms = all_map (λ (s : rows.Student). IsStudent s.row) placed_before w.students g.student_forms in
-    let few_lecturers : length (map ranked_before w.lecturers) ≤ 300 = omega (arith, g.few_lecturers, length-map w.lecturers ranked_before) in
+    let few_lecturers : length (map ranked_before w.lecturers) ≤ 300 =
+    omega (arith, g.few_lecturers, length-map w.lecturers ranked_before) in
     let few_students : length (map placed_before w.students) ≤ 2000 = omega (arith, g.few_students, length-map w.students placed_before) in
-    let apart = subst (λ cs. AreDistinct (w.office ∷ cs ++ map (λ (s : rows.Student). s.row.code) (map placed_before w.students))) (sym lecturer_codes)
+    let apart = subst (λ cs. AreDistinct (w.office ∷ cs ++ map (λ (s : rows.Student). s.row.code) (map placed_before w.students)))
+    (sym lecturer_codes)
     (subst (λ cs. AreDistinct (w.office ∷ map (λ (l : rows.Lecturer). l.row.code) w.lecturers ++ cs)) (sym student_codes) g.codes) in
-    let lecturers_known = subst (λ ks. AllByRecursion (λ (p : ProjectRow). has ks p.lecturer ≡ true) w.projects) (sym lecturers) g.lecturers_known in
-    let choices = all_map (λ (s : rows.Student). IsChoice keys s.choice) placed_before w.students (each_one _ (λ s. record { few = omega arith; known = tt; once = tt }) w.students) in
-    let no_rankings_yet = all_map (λ (l : rows.Lecturer). l.ranking ≡ None) ranked_before w.lecturers (each_one _ (λ l. refl) w.lecturers) in
-    let rankings = all_map (λ (l : rows.Lecturer). IfSome l.ranking (IsRanking (map student_key (applicants_of (opened First Published w) l.row.key)))) ranked_before w.lecturers (each_one _ (λ l. tt) w.lecturers) in
+    let lecturers_known = subst (λ ks. AllByRecursion (λ (p : ProjectRow). has ks p.lecturer ≡ true) w.projects)
+    (sym lecturers) g.lecturers_known in
+    let choices = all_map (λ (s : rows.Student). IsChoice keys s.choice) placed_before w.students
+    (each_one _ (λ s. record { few = omega arith; known = tt; once = tt }) w.students) in
+    let no_rankings_yet = all_map (λ (l : rows.Lecturer). l.ranking ≡ None) ranked_before w.lecturers
+    (each_one _ (λ l. refl) w.lecturers) in
+    let rankings = all_map (λ (l : rows.Lecturer). IfSome l.ranking
+    (IsRanking (map student_key (applicants_of (opened First Published w) l.row.key)))) ranked_before w.lecturers
+    (each_one _ (λ l. tt) w.lecturers) in
     let no_result_yet = all_map (λ (s : rows.Student). s.placed ≡ None) placed_before w.students (each_one _ (λ s. refl) w.students) in
-    let only_left = all_map (λ (s : rows.Student). is_left s ≡ false → (s.choice ≡ []) × (s.placed ≡ None)) placed_before w.students (each_one _ (λ s h. (refl, refl)) w.students) in
+    let only_left = all_map (λ (s : rows.Student). is_left s ≡ false → (s.choice ≡ []) × (s.placed ≡ None)) placed_before w.students
+    (each_one _ (λ s h. (refl, refl)) w.students) in
     let no_choices_yet : false ≡ true → AllByRecursion (λ (s : rows.Student). s.choice ≡ []) (map placed_before w.students) = λ h. cc in
-    let all_ranked : false ≡ true → AllByRecursion (λ l. is_still_to_rank (opened First Published w) l ≡ false) (map ranked_before w.lecturers) = λ h. cc in
-    let no_earlier_lists : true ≡ false → AllByRecursion (λ (s : rows.Student). (s.earlier_choice ≡ []) × (s.earlier_placement ≡ None)) (map placed_before w.students) = λ h. cc in
-    let no_earlier_rankings : true ≡ false → AllByRecursion (λ (l : rows.Lecturer). l.earlier_ranking ≡ None) (map ranked_before w.lecturers) = λ h. cc in
+    let all_ranked : false ≡ true → AllByRecursion (λ l. is_still_to_rank (opened First Published w) l
+    ≡ false) (map ranked_before w.lecturers) = λ h. cc in
+    let no_earlier_lists : true ≡ false → AllByRecursion (λ (s : rows.Student). (s.earlier_choice ≡ [])
+    × (s.earlier_placement ≡ None)) (map placed_before w.students) = λ h. cc in
+    let no_earlier_rankings : true ≡ false → AllByRecursion (λ (l : rows.Lecturer). l.earlier_ranking
+    ≡ None) (map ranked_before w.lecturers) = λ h. cc in
     assumption
 
 pub opened_good : (w : World) → Good w → w.round ≡ First → w.phase ≡ Published → Good (opened First Published w)
@@ -88,10 +115,15 @@ rows_with key p [] a rise e = cc
 rows_with {X} key p (x ∷ xs) a rise e =
     let later : AllByRecursion (λ y. is_before (key x) (key y) ≡ true) xs = all_unmap (λ l. is_before (key x) l ≡ true) key xs rise.0 in
     (elim (p x) as (λ b. cond b (Some x) (find p xs) ≡ Some a → AllByRecursion (λ y. key y ≡ key a → y ≡ a) (x ∷ xs)) [
-      | true ↦ λ f. let here : x ≡ a = cc in
-          (λ same. here, all_weaker _ _ (λ y before same. absurd (not_before_itself (key x) (subst (λ l. is_before (key x) l ≡ true) (same ∙ sym (ap key here)) before))) xs later)
-      | false ↦ λ f.
-          (λ same. absurd (not_before_itself (key x) (subst (λ l. is_before (key x) l ≡ true) (sym same) (found_all _ p xs a later f))), rows_with key p xs a rise.1 f)
+      | true ↦ λ f. let here : x ≡ a = cc in (
+        λ same. here,
+        all_weaker _ _ (λ y before same. absurd
+            (not_before_itself (key x) (subst (λ l. is_before (key x) l ≡ true) (same ∙ sym (ap key here)) before))) xs later,
+      )
+      | false ↦ λ f. (
+        λ same. absurd (not_before_itself (key x) (subst (λ l. is_before (key x) l ≡ true) (sym same) (found_all _ p xs a later f))),
+        rows_with key p xs a rise.1 f,
+      )
     ]) e
 
 -- a student who is shown no project has none of the first round, and no other student has this key
@@ -100,7 +132,8 @@ pub alone_left : (w : World) (p : rows.Student → Bool) (s : rows.Student) → 
     → AllByRecursion (λ t. equals t.row.key s.row.key ≡ true → is_left t ≡ true) w.students
 alone_left w p s g found free =
     let left : is_left s ≡ true = grind arith in
-    all_weaker _ _ (λ t one same. ap is_left (one (is_same t.row.key s.row.key same)) ∙ left) w.students (rows_with student_key p w.students s g.students_rise found)
+    all_weaker _ _ (λ t one same. ap is_left (one (is_same t.row.key s.row.key same)) ∙ left) w.students
+    (rows_with student_key p w.students s g.students_rise found)
 
 -- no step of the second round changes the first
 

@@ -37,7 +37,11 @@ lasts = run_keeps (λ u. u.round ≡ Second) step
   where
     step : (w v : World) (code : Key) (ask : AbstractCall) (reply : Answer) → w.round ≡ Second → Step w code ask reply v
         → v.round ≡ Second
-    step w v code ask reply two s = elim (step_turns w v code ask reply s) [ inl same ↦ same ∙ two | inr o ↦ let none : First ≡ Second = sym o.first ∙ two in cc ]
+    step w v code ask reply two s = elim (step_turns w v code ask reply s) [
+      | inl same ↦ same
+          ∙ two
+      | inr o ↦ let none : First ≡ Second = sym o.first ∙ two in cc
+    ]
 
 pub run_turns : (w : World) (asked : List Request) (told : List Answer) (after : List World) → Run w asked told after
     → OpensOnce w asked told after
@@ -56,7 +60,8 @@ run_turns w asked told after run = grind arith
 opening : (w : World) → w.round ≡ First → w.phase ≡ Published
     → decision (view w w.office) (AbstractCall.Move Choosing (Some Second)) ≡ applies (phase_body Second Choosing) SecondRound
 opening w one out =
-    ap (λ b. decision (sight_of w (cond b OfficeCaller (caller_among (lecturer_with w w.office) (student_with w w.office)))) (AbstractCall.Move Choosing (Some Second))) (is_own w.office)
+    ap (λ b. decision (sight_of w (cond b OfficeCaller (caller_among (lecturer_with w w.office) (student_with w w.office))))
+    (AbstractCall.Move Choosing (Some Second))) (is_own w.office)
     ∙ (λ i. moves_in (office_sees w) (one i) Second Choosing)
     ∙ λ i. opens (out i) Choosing
 

@@ -17,7 +17,8 @@ pub number_back : (keys : List Key) (n : ℕ) → Rise keys → n < length keys 
 number_back [] n rise lt = absurd (omega arith)
 number_back (k ∷ ks) zero rise lt = rw (is_own k) refl
 number_back (k ∷ ks) (suc n) rise lt =
-    rw (before_other k (get_or ks n []) (all_at (λ l. is_before k l ≡ true) ks n [] rise.0 (omega arith))) (ap (λ (m : ℕ). 1 + m) (number_back ks n rise.1 (omega arith)) ∙ omega arith)
+    rw (before_other k (get_or ks n []) (all_at (λ l. is_before k l ≡ true) ks n [] rise.0 (omega arith)))
+    (ap (λ (m : ℕ). 1 + m) (number_back ks n rise.1 (omega arith)) ∙ omega arith)
 
 module _ (projects : List Key) (rise : Rise projects) where
   abbrev number_of : List (Key × Key) → rows.Student → Option ℕ
@@ -48,23 +49,30 @@ module _ (projects : List Key) (rise : Rise projects) where
   placed_back [] (m ∷ places) up same low = absurd (omega arith)
   placed_back (s ∷ ss) [] up same low = absurd (omega arith)
   placed_back (s ∷ ss) (Some p ∷ places) up same low =
-      let above : AllByRecursion (λ s'. is_before (student_key s) (student_key s') ≡ true) ss = all_unmap (λ l. is_before (student_key s) l ≡ true) student_key ss up.0 in
+      let above : AllByRecursion (λ s'. is_before (student_key s) (student_key s') ≡ true) ss =
+      all_unmap (λ l. is_before (student_key s) l ≡ true) student_key ss up.0 in
       let pairs = pairs_by (map student_key ss) projects places in
-      let here : number_of ((student_key s, get_or projects p []) ∷ pairs) s ≡ Some p = rw (is_own (student_key s)) (ap Some (number_back projects p rise (low 0 p refl))) in
-      let rest = later (student_key s) (get_or projects p []) pairs ss above ∙ placed_back ss places up.1 (omega arith) (λ n q e. low (suc n) q e) in
+      let here : number_of ((student_key s, get_or projects p []) ∷ pairs) s
+      ≡ Some p = rw (is_own (student_key s)) (ap Some (number_back projects p rise (low 0 p refl))) in
+      let rest = later (student_key s) (get_or projects p []) pairs ss above
+      ∙ placed_back ss places up.1 (omega arith) (λ n q e. low (suc n) q e) in
       λ i. here i ∷ rest i
   placed_back (s ∷ ss) (None ∷ places) up same low =
-      let above : AllByRecursion (λ s'. is_before (student_key s) (student_key s') ≡ true) ss = all_unmap (λ l. is_before (student_key s) l ≡ true) student_key ss up.0 in
-      let here : number_of (pairs_by (map student_key ss) projects places) s ≡ None = ap (option_map (number_in projects)) (absent ss places (student_key s) above) in
+      let above : AllByRecursion (λ s'. is_before (student_key s) (student_key s') ≡ true) ss =
+      all_unmap (λ l. is_before (student_key s) l ≡ true) student_key ss up.0 in
+      let here : number_of (pairs_by (map student_key ss) projects places) s
+      ≡ None = ap (option_map (number_in projects)) (absent ss places (student_key s) above) in
       let rest = placed_back ss places up.1 (omega arith) (λ n q e. low (suc n) q e) in
       λ i. here i ∷ rest i
 
 placed_map : (pairs : List (Key × Key)) (projects : List Key) (ss : List rows.Student)
     → AllByRecursion (λ s. is_left s ≡ true) ss
-    → map (λ (s : rows.Student). option_map (number_in projects) s.placed) (map (with_place pairs) ss) ≡ map (λ (s : rows.Student). option_map (number_in projects) (placement_in pairs s.row.key)) ss
+    → map (λ (s : rows.Student). option_map (number_in projects) s.placed) (map (with_place pairs) ss)
+    ≡ map (λ (s : rows.Student). option_map (number_in projects) (placement_in pairs s.row.key)) ss
 placed_map pairs projects [] left = refl
 placed_map pairs projects (s ∷ ss) left =
-    λ i. option_map (number_in projects) (cond (left.0 i) (record s { placed = placement_in pairs s.row.key }) s).placed ∷ placed_map pairs projects ss left.1 i
+    λ i. option_map (number_in projects) (cond (left.0 i) (record s { placed = placement_in pairs s.row.key }) s).placed
+    ∷ placed_map pairs projects ss left.1 i
 
 -- what a matching's pairs leave is the matching
 pub pairs_place : (w : World) (places : List (Option ℕ)) → Sound w → IsMatching (instance w) places

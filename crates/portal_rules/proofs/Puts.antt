@@ -38,7 +38,8 @@ module _ {X : Type 0} (key : X → Key) (x : X) where
         | true ↦ λ e. ((e, all_weaker _ _ (λ l h. before_trans (key x) (key y) l e h) (map key ys) rise.0), rise)
         | false ↦ λ e. (
           all_map (λ l. is_before (key y) l ≡ true) key (put key x ys)
-              (all_put (λ z. is_before (key y) (key z) ≡ true) ys (after_other (key x) (key y) e (or_parts (equals (key x) (key y)) (has (map key ys) (key x)) new).0)
+              (all_put (λ z. is_before (key y) (key z) ≡ true) ys
+              (after_other (key x) (key y) e (or_parts (equals (key x) (key y)) (has (map key ys) (key x)) new).0)
               (all_unmap (λ l. is_before (key y) l ≡ true) key ys rise.0)),
           rise_put ys rise.1 (or_parts (equals (key x) (key y)) (has (map key ys) (key x)) new).1,
         )
@@ -46,7 +47,8 @@ module _ {X : Type 0} (key : X → Key) (x : X) where
 
   pub has_put : (part : X → Key) (ys : List X) (k : Key)
       → has (map part (put key x ys)) k ≡ (equals k (part x) || has (map part ys) k)
-  has_put part ys k = any_map (equals k) part (put key x ys) ∙ any_put (λ z. equals k (part z)) ys ∙ ap (λ b. equals k (part x) || b) (sym (any_map (equals k) part ys))
+  has_put part ys k = any_map (equals k) part (put key x ys) ∙ any_put (λ z. equals k (part z)) ys
+      ∙ ap (λ b. equals k (part x) || b) (sym (any_map (equals k) part ys))
 
   distinct_here : (part : X → Key) (ys : List X) → AreDistinct (map part ys) → has (map part ys) (part x) ≡ false
       → AreDistinct (map part (put key x ys))
@@ -57,8 +59,11 @@ module _ {X : Type 0} (key : X → Key) (x : X) where
       → has (front ++ map part ys) (part x) ≡ false → AreDistinct (front ++ map part (put key x ys))
   distinct_put part [] ys d new = distinct_here part ys d new
   distinct_put part (k ∷ front) ys d new =
-      let parts : (equals (part x) k ≡ false) × (has (front ++ map part ys) (part x) ≡ false) = or_parts (equals (part x) k) (has (front ++ map part ys) (part x)) new in
-      let old : (has front k ≡ false) × (has (map part ys) k ≡ false) = or_parts (has front k) (has (map part ys) k) (sym (any_append (equals k) front (map part ys)) ∙ d.0) in (
-        any_append (equals k) front (map part (put key x ys)) ∙ or_from _ _ old.0 (has_put part ys k ∙ or_from _ _ (is_sym k (part x) ∙ parts.0) old.1),
+      let parts : (equals (part x) k ≡ false) × (has (front ++ map part ys) (part x) ≡ false) =
+      or_parts (equals (part x) k) (has (front ++ map part ys) (part x)) new in
+      let old : (has front k ≡ false) × (has (map part ys) k ≡ false) =
+      or_parts (has front k) (has (map part ys) k) (sym (any_append (equals k) front (map part ys)) ∙ d.0) in (
+        any_append (equals k) front (map part (put key x ys))
+            ∙ or_from _ _ old.0 (has_put part ys k ∙ or_from _ _ (is_sym k (part x) ∙ parts.0) old.1),
         distinct_put part front ys d.1 parts.1,
       )

@@ -21,7 +21,8 @@ module _ (q : Key → Bool) (place : Student → Option Key) where
 
   counted : (ss : List Student)
       → count_by (λ (x : Key × Key). q x.1) (pairs_with place ss) ≡ count_by (λ s. passes q (place s)) ss
-  counted ss = sym (length-filter (λ (x : Key × Key). q x.1) (pairs_with place ss)) ∙ as_many ss ∙ length-filter (λ s. passes q (place s)) ss
+  counted ss = sym (length-filter (λ (x : Key × Key). q x.1) (pairs_with place ss)) ∙ as_many ss
+      ∙ length-filter (λ s. passes q (place s)) ss
 
 at_it : (p : Key) (o : Option Key) → passes (λ k. equals k p) o ≡ is_at p o
 at_it p o = grind arith
@@ -29,7 +30,8 @@ at_it p o = grind arith
 at_one : (ps : List ProjectRow) (l : Key) (o : Option Key)
     → passes (has (own_keys ps l)) o ≡ list_any (λ p. equals p.lecturer l && is_at p.key o) ps
 at_one ps l None = sym (given_none ps l)
-at_one ps l (Some k) = any_map (equals k) project_key (filter (λ p. equals p.lecturer l) ps) ∙ filtered_any (λ p. equals k p.key) (λ p. equals p.lecturer l) ps
+at_one ps l (Some k) = any_map (equals k) project_key (filter (λ p. equals p.lecturer l) ps)
+    ∙ filtered_any (λ p. equals k p.key) (λ p. equals p.lecturer l) ps
 
 module _ (ss : List Student) where
   abbrev pairs : List (Key × Key)
@@ -47,7 +49,8 @@ module _ (ss : List Student) where
 
   pub project_left_is : (p : ProjectRow)
       → project_left pairs p ≡ cond (nat_lt 0 (lowered_project ss p).capacity) (Some (lowered_project ss p)) None
-  project_left_is p = room_case (λ n. record p { capacity = n }) (p.capacity - students_at pairs p.key) ∙ (λ i. cond (nat_lt 0 (p.capacity - to_is p.key i)) (Some (record p { capacity = p.capacity - to_is p.key i })) None)
+  project_left_is p = room_case (λ n. record p { capacity = n }) (p.capacity - students_at pairs p.key)
+      ∙ (λ i. cond (nat_lt 0 (p.capacity - to_is p.key i)) (Some (record p { capacity = p.capacity - to_is p.key i })) None)
 
   pub lecturer_left_is : (ps : List ProjectRow) (l : LecturerRow) → lecturer_left ps pairs l
       ≡ cond (nat_lt 0 (l.capacity - given_with ps ss l.key)) (Some (record l { capacity = l.capacity - given_with ps ss l.key })) None

@@ -34,7 +34,8 @@ module _ {X : Type 0} (row : X) where
 module _ {X : Type 0} (rules : RollRules X) (fault : RollRefusal) where
   abbrev FoundRow : ℕ → List X → List X → Type 0
   FoundRow at there rows =
-      (front : List X) × (row : X) × (rest : List X) × (new : List X) × (same : ℕ) × (rows ≡ front ++ row ∷ rest) × (take_rows rules at there front ≡ Took new same)
+      (front : List X) × (row : X) × (rest : List X) × (new : List X) × (same : ℕ) × (rows ≡ front ++ row ∷ rest)
+      × (take_rows rules at there front ≡ Took new same)
       × (verdict rules (at + length front) (with_new new there) row ≡ Rejected fault)
 
   same_fault : (row : X) (t : Taken X) → with_row row Present t ≡ Faulty fault → t ≡ Faulty fault
@@ -56,17 +57,46 @@ module _ {X : Type 0} (rules : RollRules X) (fault : RollRefusal) where
           let told = one_fault f (sym (next_row rules at there r rs (Rejected f) is) ∙ e) in
           ([], r, rs, [], 0, refl, refl, subst (λ n. verdict rules n there r ≡ Rejected fault) (omega arith) (is ∙ ap Rejected told))
       go again Present is =
-          let (front, x, rest, new, n, parts, took, refused) = again there (same_fault r (take_rows rules (at + 1) there rs) (sym (next_row rules at there r rs Present is) ∙ e)) in
-          (r ∷ front, x, rest, new, n + 1, ap (λ l. r ∷ l) parts, next_row rules at there r front Present is ∙ ap (with_row r Present) took, subst (λ m. verdict rules m (with_new new there) x ≡ Rejected fault) (omega arith) refused)
+          let (front, x, rest, new, n, parts, took, refused) =
+          again there (same_fault r (take_rows rules (at + 1) there rs) (sym (next_row rules at there r rs Present is) ∙ e)) in (
+            r ∷ front,
+            x,
+            rest,
+            new,
+            n + 1,
+            ap (λ l. r ∷ l) parts,
+            next_row rules at there r front Present is
+                ∙ ap (with_row r Present) took,
+            subst (λ m. verdict rules m (with_new new there) x ≡ Rejected fault) (omega arith) refused,
+          )
       go again New is =
-          let (front, x, rest, new, n, parts, took, refused) = again (r ∷ there) (new_fault r (take_rows rules (at + 1) (r ∷ there) rs) (sym (next_row rules at there r rs New is) ∙ e)) in
-          (r ∷ front, x, rest, r ∷ new, n, ap (λ l. r ∷ l) parts, next_row rules at there r front New is ∙ ap (with_row r New) took, subst (λ m. verdict rules m (with_new new (r ∷ there)) x ≡ Rejected fault) (omega arith) refused)
+          let (front, x, rest, new, n, parts, took, refused) =
+          again (r ∷ there) (new_fault r (take_rows rules (at + 1) (r ∷ there) rs) (sym (next_row rules at there r rs New is) ∙ e)) in (
+            r ∷ front,
+            x,
+            rest,
+            r ∷ new,
+            n,
+            ap (λ l. r ∷ l) parts,
+            next_row rules at there r front New is
+                ∙ ap (with_row r New) took,
+            subst (λ m. verdict rules m (with_new new (r ∷ there)) x ≡ Rejected fault) (omega arith) refused,
+          )
 
   pub row_first : (there rows : List X) → take_rows rules 1 there rows ≡ Faulty fault
       → IsFirstRefused rules there rows fault
   row_first there rows e =
       let (front, r, rest, new, same, parts, took, refused) = found_row 1 there rows e in
-      record { front = front; row = r; rest = rest; parts = parts; new = new; same = same; taken = took; refused = subst (λ n. verdict rules n (with_new new there) r ≡ Rejected fault) (omega arith) refused }
+      record {
+        front = front;
+        row = r;
+        rest = rest;
+        parts = parts;
+        new = new;
+        same = same;
+        taken = took;
+        refused = subst (λ n. verdict rules n (with_new new there) r ≡ Rejected fault) (omega arith) refused;
+      }
 
 -- what is taken so far, and what the rest will add
 
@@ -92,7 +122,8 @@ pub there_new : {X : Type 0} (on_roll new now : List X) (x : X) → now ≡ new 
     → x ∷ reverse new ++ on_roll ≡ reverse now ++ on_roll
 there_new on_roll new now x is = ap (λ xs. xs ++ on_roll) (sym (ap reverse is ∙ reverse-append new (x ∷ [])))
 
-module _ {X : Type 0} (rules : RollRules X) (at : ℕ) (on_roll rows new seen : List X) (same i : ℕ) (x : X) (whole : Taken X) (low : i < length rows) (e : x ≡ get_or rows i x) (new_ones : seen ≡ new)
+module _ {X : Type 0} (rules : RollRules X) (at : ℕ) (on_roll rows new seen : List X) (same i : ℕ) (x : X) (whole : Taken X)
+    (low : i < length rows) (e : x ≡ get_or rows i x) (new_ones : seen ≡ new)
     (so_far : whole ≡ before new same (take_rows rules at (reverse new ++ on_roll) (drop i rows)))
   where
     abbrev later : List X → Taken X
@@ -102,7 +133,8 @@ module _ {X : Type 0} (rules : RollRules X) (at : ℕ) (on_roll rows new seen : 
         → whole ≡ before new same (with_row x v (later (there_after (reverse new ++ on_roll) x v)))
     next v is =
         so_far ∙ ap (λ xs. before new same (take_rows rules at (reverse new ++ on_roll) xs)) (drop_more rows i x low e)
-        ∙ ap (before new same) (next_row rules at (reverse new ++ on_roll) x (drop (i + 1) rows) v (ap (λ zs. verdict rules at (reverse zs ++ on_roll) x) (sym new_ones) ∙ is))
+        ∙ ap (before new same) (next_row rules at (reverse new ++ on_roll) x (drop (i + 1) rows) v
+        (ap (λ zs. verdict rules at (reverse zs ++ on_roll) x) (sym new_ones) ∙ is))
 
     pub row_faulty : (fault : RollRefusal) → verdict rules at (reverse seen ++ on_roll) x ≡ Rejected fault
         → whole ≡ Faulty fault

@@ -38,7 +38,8 @@ module _ (w v : World) (code : Key) (g : Good w) where
   enrolled u now sound round phase e =
       let early : is_from_ranking w.phase ≡ false = rolls_early w.round w.phase now in
       let one : w.round ≡ First = grind arith in
-      becomes u (not_published u (sound early one) (ap is_published phase ∙ open_phase w.phase early) (λ h. let second : is_second w.round ≡ true = ap is_second (sym round) ∙ h in cc))
+      becomes u (not_published u (sound early one) (ap is_published phase ∙ open_phase w.phase early)
+      (λ h. let second : is_second w.round ≡ true = ap is_second (sym round) ∙ h in cc))
       (e ∙ ap (λ r. in_first r u w) one)
 
   pub step_case : (x : Caller) → caller w code ≡ x → (ask : AbstractCall) → Leads ask (decision (sight_of w x) ask)
@@ -47,7 +48,9 @@ module _ (w v : World) (code : Key) (g : Good w) where
       by_student Leads idle (student_sees w s)
       (λ list now left none form.
       becomes _
-      (not_published (changed w (Choices s.row.key list)) (choosing w s.row.key list g.sound now (alone_left w _ s g.sound (student_found w code s is) left) none) (choosing_open w.phase now).1
+      (not_published (changed w (Choices s.row.key list))
+      (choosing w s.row.key list g.sound now (alone_left w _ s g.sound (student_found w code s is) left) none)
+      (choosing_open w.phase now).1
       (λ h. subst IsRound (sym (first_chosen w s.row.key list)) (g.before h)))) ask
   step_case (LecturerCaller l) is ask =
       by_lecturer Leads idle (lecturer_sees w l)
@@ -58,17 +61,24 @@ module _ (w v : World) (code : Key) (g : Good w) where
   step_case OfficeCaller is ask =
       by_office Leads idle (office_sees w)
       (record {
-        lecturers = λ rs new n now took form. enrolled (with_lecturers w new) now (λ early one. lecturers_added w early one rs new n g.sound form took) refl refl;
-        projects = λ rs new n now took form. enrolled (with_projects w new) now (λ early one. projects_added w early one rs new n g.sound form took) refl refl;
-        students = λ rs new n now took form. enrolled (with_students w new) now (λ early one. students_added w early one rs new n g.sound form took) refl refl;
-        choosing = λ named at form. becomes _ (not_published (changed w (To Choosing)) (to_phase w Choosing g.sound refl refl (ap is_published at) (λ h. ap is_from_ranking at)) refl g.before);
-        ranking = λ named at form. becomes _ (not_published (changed w (To Ranking)) (to_phase w Ranking g.sound refl refl (ap is_published at) (λ h. ap is_from_ranking at)) refl g.before);
+        lecturers = λ rs new n now took form. enrolled (with_lecturers w new) now
+            (λ early one. lecturers_added w early one rs new n g.sound form took) refl refl;
+        projects = λ rs new n now took form. enrolled (with_projects w new) now
+            (λ early one. projects_added w early one rs new n g.sound form took) refl refl;
+        students = λ rs new n now took form. enrolled (with_students w new) now
+            (λ early one. students_added w early one rs new n g.sound form took) refl refl;
+        choosing = λ named at form. becomes _ (not_published (changed w (To Choosing))
+            (to_phase w Choosing g.sound refl refl (ap is_published at) (λ h. ap is_from_ranking at)) refl g.before);
+        ranking = λ named at form. becomes _ (not_published (changed w (To Ranking))
+            (to_phase w Ranking g.sound refl refl (ap is_published at) (λ h. ap is_from_ranking at)) refl g.before);
         published = λ named at none form left.
             becomes (changed w (Placements left.0))
-            (to_published w left.0 g (ap is_setup at) (all_ranked w (ap is_from_ranking at) none) (subst (λ u. IsBest (instance w) (matching_of u)) left.1 left.2))
+            (to_published w left.0 g (ap is_setup at) (all_ranked w (ap is_from_ranking at) none)
+            (subst (λ u. IsBest (instance w) (matching_of u)) left.1 left.2))
             left.1;
         opened = λ one at form left. becomes (opened First Published w) (opened_good w g one at) (left ∙ opens_to w one at);
-        filled = λ now some form. becomes _ (not_published (changed w Fill) (filling w g.sound now) (ranking_open w.phase now) (λ h. subst IsRound (sym (first_filled w)) (g.before h)));
+        filled = λ now some form. becomes _ (not_published (changed w Fill) (filling w g.sound now) (ranking_open w.phase now)
+            (λ h. subst IsRound (sym (first_filled w)) (g.before h)));
         sheets = λ ask text sheet calm form left. becomes w g left;
       }) ask
 
@@ -77,14 +87,16 @@ pub step_good : (w v : World) (code : Key) (ask : AbstractCall) (reply : Answer)
 step_good w v code ask reply g s = step_case w v code g (caller w code) refl ask s.form s.left
 
 -- what each step keeps holds of each world that a run reaches, as that it is good
-module _ (P : World → Type 0) (step : (w v : World) (code : Key) (ask : AbstractCall) (reply : Answer) → P w → Step w code ask reply v → P v) where
+module _ (P : World → Type 0) (step : (w v : World) (code : Key) (ask : AbstractCall) (reply : Answer) → P w → Step w code ask reply v
+    → P v) where
   served_keeps : (w v : World) (r : Request) (a : Answer) → P w → Serves w r a v → P v
   served_keeps w v r a p s = grind (arith, step w v r.code)
 
   pub run_keeps : (w : World) (asked : List Request) (told : List Answer) (after : List World) → P w
       → Run w asked told after → AllByRecursion P after
   run_keeps w asked told [] p run = tt
-  run_keeps w (r ∷ rs) (a ∷ told) (v ∷ after) p run = let next : P v = served_keeps w v r a p run.0 in (next, run_keeps v rs told after next run.1)
+  run_keeps w (r ∷ rs) (a ∷ told) (v ∷ after) p run = let next : P v = served_keeps w v r a p run.0 in
+      (next, run_keeps v rs told after next run.1)
   run_keeps w asked told after p run = grind arith
 
 pub run_good : (w : World) (asked : List Request) (told : List Answer) (after : List World) → Good w

@@ -19,7 +19,8 @@ any_between p (y ∷ ys) x rest = grind (arith, any_between p ys x rest)
 
 pub text_put : {S : Type 0} (front rest : List Key) (s t : HashSet (Bor Key) S) (k : Bor Key) (x : Key)
     → set.Updates text_eq s t k true → k.now ≡ x → HasTexts (front ++ rest) s → HasTexts (front ++ x ∷ rest) t
-text_put front rest s t k x updates is_x was = λ q. grind (arith, updates.0 q, was q, is_x, is_sym k.now q.now, any_between (equals q.now) front x rest)
+text_put front rest s t k x updates is_x was =
+    λ q. grind (arith, updates.0 q, was q, is_x, is_sym k.now q.now, any_between (equals q.now) front x rest)
 
 pub text_push : {S : Type 0} (texts : List Key) (s t : HashSet (Bor Key) S) (k : Bor Key) (x : Key)
     → set.Updates text_eq s t k true → k.now ≡ x → HasTexts texts s → HasTexts (texts ++ x ∷ []) t
@@ -57,7 +58,8 @@ before_seen seen row = sym (ap reverse (map-append (λ r. r.now) seen (row ∷ [
 -- the project of the pair that was found
 pub looked_up : {S : Type 0} (pairs : List (Key × Key)) (table : HashMap (Bor Key) (Bor (Key × Key)) S)
     → HasRows (λ pair. pair.0) pairs table
-    → (q : Bor Key) (found : Option (Bor (Key × Key))) → found ≡ hash.get text_eq table q → option_map (λ (x : Key × Key). x.1) (option_map (λ row. row.now) found) ≡ placement_in pairs q.now
+    → (q : Bor Key) (found : Option (Bor (Key × Key))) → found ≡ hash.get text_eq table q
+    → option_map (λ (x : Key × Key). x.1) (option_map (λ row. row.now) found) ≡ placement_in pairs q.now
 looked_up pairs table has_all q found got = ap (option_map (λ (x : Key × Key). x.1)) (ap (option_map (λ row. row.now)) got ∙ has_all q)
 
 -- whether a row has the key
@@ -72,7 +74,8 @@ some_mapped f o = grind arith
 pub is_placed : (pairs : List (Key × Key)) (k : Key) (project : Option (Bor Key))
     → option_map (λ p. p.now) project ≡ placement_in pairs k → is_some project ≡ is_assigned pairs k
 is_placed pairs k project given =
-    some_mapped (λ p. p.now) project ∙ ap is_some given ∙ sym (some_mapped (λ (x : Key × Key). x.1) (find (λ x. equals x.0 k) pairs)) ∙ some_found (λ x. equals x.0 k) pairs
+    some_mapped (λ p. p.now) project ∙ ap is_some given ∙ sym (some_mapped (λ (x : Key × Key). x.1) (find (λ x. equals x.0 k) pairs))
+    ∙ some_found (λ x. equals x.0 k) pairs
 
 -- the key of one more text was put in
 known_put : {S : Type 0} (known : Key → Bool) (s t : HashMap (Bor Key) (Bor Key) S) (k v : Bor Key) (x : Key)
@@ -89,7 +92,8 @@ known_alike f g t alike was = λ q. ((was q).0 ∙ alike q.now, (was q).1)
 pub left_out : {S : Type 0} (ks : List Key) (table : HashSet (Bor Key) S) → HasTexts (map (λ k. k) ks) table
     → (persons : List Person)
     → list_any (λ s. not (set.contains_by (λ k. equals s.key k.now) table)) persons ≡ list_any (λ s. not (has ks s.key)) persons
-left_out ks table texts persons = any_alike _ _ (λ s. ap not (texts (record { ref_ptr = (0, 0); now = s.key }) ∙ ap (λ ts. has ts s.key) (map-id ks))) persons
+left_out ks table texts persons = any_alike _ _
+    (λ s. ap not (texts (record { ref_ptr = (0, 0); now = s.key }) ∙ ap (λ ts. has ts s.key) (map-id ks))) persons
 
 -- the key of the next person was put in
 module _ {S : Type 0} (known : Key → Bool) (persons : List Person) where
@@ -102,9 +106,12 @@ module _ {S : Type 0} (known : Key → Bool) (persons : List Person) where
   person_more s t k v i x updates is_x is_v low e was =
       known_alike _ _ t
       (λ q. or_assoc (known q) (list_any (λ p. equals p.key q) (take i persons)) (equals x.key q)
-      ∙ ap (λ b. known q || b) (ap (λ (y : Person). list_any (λ p. equals p.key q) (take i persons) || equals y.key q) e ∙ sym (list_any_more (λ p. equals p.key q) persons i x low)))
+      ∙ ap (λ b. known q || b) (ap (λ (y : Person). list_any (λ p. equals p.key q) (take i persons) || equals y.key q) e
+      ∙ sym (list_any_more (λ p. equals p.key q) persons i x low)))
       (known_put (λ q. known q || list_any (λ p. equals p.key q) (take i persons)) s t k v x.key updates is_x is_v was)
 
   pub person_all : (s : HashMap (Bor Key) (Bor Key) S) (i : ℕ) → i ≡ length persons → KnownTo i s
       → HasKeys (λ k. known k || list_any (λ p. equals p.key k) persons) s
-  person_all s i end was = known_alike _ _ s (λ q. ap (λ (ps : List Person). known q || list_any (λ p. equals p.key q) ps) (ap (λ n. take n persons) end ∙ take-length persons)) was
+  person_all s i end was = known_alike _ _ s
+      (λ q. ap (λ (ps : List Person). known q || list_any (λ p. equals p.key q) ps) (ap (λ n. take n persons) end ∙ take-length persons))
+      was

@@ -16,7 +16,8 @@ pub choice_legal : (catalogue : List Listing) (list : List Key) → IsChoice (ma
 choice_legal catalogue list c =
     choice_taken catalogue list c.few
     (record {
-      only = all_weaker _ _ (λ k h. sym (any_map (equals k) (λ (l : Listing). l.key) catalogue ∙ any_alike _ _ (λ l. is_sym k l.key) catalogue) ∙ h) list c.known;
+      only = all_weaker _ _ (λ k h. sym (any_map (equals k) (λ (l : Listing). l.key) catalogue
+          ∙ any_alike _ _ (λ l. is_sym k l.key) catalogue) ∙ h) list c.known;
       once = c.once;
       new = none_yet list;
     })
@@ -36,7 +37,8 @@ ranking_legal w l list closed r =
     (ranking_taken (shown_sets w l.row.key true) list
     (record {
       only = all_weaker _ _ (λ k h.
-          (any_map (λ (p : Key × List Person). list_any (λ s. equals s.key k) p.1) _ (projects_of w l.row.key) ∙ union_any (λ s. equals s k) (projects_of w l.row.key) w.students)
+          (any_map (λ (p : Key × List Person). list_any (λ s. equals s.key k) p.1) _ (projects_of w l.row.key)
+          ∙ union_any (λ s. equals s k) (projects_of w l.row.key) w.students)
           ∙ sym (any_alike (equals k) (λ s. equals s k) (λ s. is_sym k s) (map student_key (applicants_of w l.row.key))) ∙ h) list r.only;
       once = r.once;
       new = none_yet list;
@@ -58,4 +60,9 @@ pub rows_taken : {X : Type 0} (roll : RollRules X) (at : ℕ) (there rows : List
     → take_rows roll at there rows ≡ Took rows 0
 rows_taken roll at there [] f = refl
 rows_taken roll at there (r ∷ rs) f =
-    rw (none_found (λ x. equals (roll.key x) (roll.key r)) there f.0, f.1, has_room roll.limit (length there) f.2, rows_taken roll (at + 1) (r ∷ there) rs f.3) refl
+    rw (
+      none_found (λ x. equals (roll.key x) (roll.key r)) there f.0,
+      f.1,
+      has_room roll.limit (length there) f.2,
+      rows_taken roll (at + 1) (r ∷ there) rs f.3,
+    ) refl

@@ -10,7 +10,8 @@ code_byte b h = grind (arith, nat_tests)
 
 ascii : (p : ℕ → Bool) → ((b : ℕ) → p b ≡ true → b < 128) → (bs : List ℕ) → list_all p bs ≡ true → IsAscii bs
 ascii p low [] h = IsAscii-nil
-ascii p low (b ∷ bs) h = let parts : (p b ≡ true) × (list_all p bs ≡ true) = and_parts (p b) (list_all p bs) h in IsAscii-cons b bs (low b parts.0) (ascii p low bs parts.1)
+ascii p low (b ∷ bs) h = let parts : (p b ≡ true) × (list_all p bs ≡ true) = and_parts (p b) (list_all p bs) h in
+    IsAscii-cons b bs (low b parts.0) (ascii p low bs parts.1)
 
 pub code_text : (bs : List ℕ) → list_all is_code_byte bs ≡ true → IsUtf8 bs
 code_text bs h = IsUtf8-from_ascii bs (ascii is_code_byte code_byte bs h)

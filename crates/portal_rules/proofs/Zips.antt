@@ -36,12 +36,15 @@ module _ (R : Student → Student → Type 0) (same : (s t : Student) → R s t 
   module _ (ss ts : List Student) (z : AllZip R ss ts) where
     count_same : (q : Option Key → Bool)
         → count_by (λ (s : Student). q s.earlier_placement) ts ≡ count_by (λ s. q s.earlier_placement) ss
-    count_same q = sym (count_by-map q (λ (s : Student). s.earlier_placement) ts) ∙ ap (count_by q) (zip_same R (λ s. s.earlier_placement) same ss ts z) ∙ count_by-map q (λ (s : Student). s.earlier_placement) ss
+    count_same q = sym (count_by-map q (λ (s : Student). s.earlier_placement) ts)
+        ∙ ap (count_by q) (zip_same R (λ s. s.earlier_placement) same ss ts z) ∙ count_by-map q (λ (s : Student). s.earlier_placement) ss
 
     pub zip_lecturers : (r : Round) (ls : List Lecturer) (ps : List ProjectRow)
         → lecturers_in r ls ps ts ≡ lecturers_in r ls ps ss
-    zip_lecturers = lecturers_given ts ss (λ p. count_same (is_at p)) (λ ps l. count_same (λ o. list_any (λ p. equals p.lecturer l && is_at p.key o) ps))
+    zip_lecturers = lecturers_given ts ss (λ p. count_same (is_at p))
+        (λ ps l. count_same (λ o. list_any (λ p. equals p.lecturer l && is_at p.key o) ps))
 
     pub zip_projects : (r : Round) (ls : List Lecturer) (ps : List ProjectRow)
         → projects_in r ls ps ts ≡ projects_in r ls ps ss
-    zip_projects = projects_given ts ss (λ p. count_same (is_at p)) (λ ps l. count_same (λ o. list_any (λ p. equals p.lecturer l && is_at p.key o) ps))
+    zip_projects = projects_given ts ss (λ p. count_same (is_at p))
+        (λ ps l. count_same (λ o. list_any (λ p. equals p.lecturer l && is_at p.key o) ps))

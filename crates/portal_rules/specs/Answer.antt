@@ -6,7 +6,7 @@ use Rattle.serde_json.specs.Written.{has_float}
 use Rattle.portal_rules.specs.Words.{Key, is_empty}
 use Rattle.portal_rules.specs.World.{is_choosing, is_ranking, is_from_ranking, has_result, Change, Choices, Ranks}
 use Rattle.portal_rules.specs.World.{Lecturers, Projects, Students, To, Fill, SecondRound}
-use Rattle.portal_rules.specs.Sight.{StudentSees, LecturerSees, OfficeSees, AbstractCall}
+use Rattle.portal_rules.specs.Calls.{StudentSees, LecturerSees, OfficeSees, AbstractCall}
 use Rattle.portal_rules.specs.declared.view.View.{View as Sight}
 use Rattle.portal_rules.specs.declared.view.View.TheVariants.{Nobody, Office, Lecturer, Student}
 use Rattle.portal_rules.specs.declared.decision.Sheet.{Sheet}
@@ -14,7 +14,7 @@ use Rattle.portal_rules.specs.declared.decision.Sheet.TheVariants as sheet
 use Rattle.portal_rules.specs.Bodies.{dictionary, texts, count, catalogue_body, projects_body, students_body}
 use Rattle.portal_rules.specs.Bodies.{applicants_body, placed_body, project_body, phase_body, student_me, lecturer_me}
 use Rattle.portal_rules.specs.Bodies.{office_me, roll_body, status_body, allocation_body, filled_body, csv_text}
-use Rattle.portal_rules.specs.Bodies.{report_text}
+use Rattle.portal_rules.specs.Bodies.{result_text}
 use Rattle.portal_rules.specs.Faults.{ListFault, choice_fault, ranking_fault, Taken, Faulty, Took, take_rows}
 use Rattle.portal_rules.specs.Faults.{lecturer_roll, project_roll, student_roll}
 
@@ -194,7 +194,7 @@ to_office v (AbstractCall.Move phase round) = moves v phase round
 to_office v AbstractCall.Status = shows (status_body v)
 to_office v AbstractCall.Allocation = open_where (has_result v.round v.phase) (shows (allocation_body v.pairs))
 to_office v AbstractCall.AllocationCsv = open_where (has_result v.round v.phase) (renders (Csv (csv_text v)) sheet.Csv)
-to_office v AbstractCall.Report = open_where (has_result v.round v.phase) (renders (Plain (report_text v)) sheet.Report)
+to_office v AbstractCall.Report = open_where (has_result v.round v.phase) (renders (Plain (result_text v)) sheet.Report)
 to_office v AbstractCall.FillRankings = open_where (is_ranking v.phase) (fills v)
 to_office v _ = not_yours
 

@@ -7,7 +7,7 @@ use Rattle.serde_json.specs.View.{items_of}
 use Rattle.std.specs.List.{count_by}
 use Rattle.portal_rules.specs.Words.{Key, equals}
 use Rattle.portal_rules.specs.World.{has_result, phase_word, placement_in, Person, Listing, ProjectRow, StudentRow}
-use Rattle.portal_rules.specs.Sight.{StudentSees, LecturerSees, OfficeSees}
+use Rattle.portal_rules.specs.Calls.{StudentSees, LecturerSees, OfficeSees}
 
 abbrev pub members : List (List ℕ × Data) → Members
 members [] = no_members
@@ -199,7 +199,7 @@ assigned_line v =
     codes "assigned " ++ decimal (length v.pairs) ++ codes " of " ++ decimal (length v.students) ++ line_feed
 
 -- the lines of students, the lines of projects and the totals, with an empty line between them
-abbrev pub report_text : OfficeSees → List ℕ
-report_text v =
+abbrev pub result_text : OfficeSees → List ℕ
+result_text v =
     flat_map (student_line v) v.students ++ line_feed ++ flat_map (project_line v) v.projects ++ line_feed
     ++ assigned_line v

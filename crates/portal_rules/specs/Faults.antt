@@ -2,9 +2,10 @@
 use Rattle.portal_rules.specs.Base.{find, list_any}
 use Rattle.std.specs.Prelude.{ℕ, ◌+◌, Bool, false, not, if◌then◌else◌, ◌&&◌, ◌==◌, nat_le, codes, List, [], ◌∷◌, ◌++◌}
 use Rattle.std.specs.Prelude.{map, length, Option, Some, None, ◌≡◌, ◌<◌}
+use Rattle.spa_rows.specs.Limits.{most_lecturers, most_projects, most_students, longest_choice}
 use Rattle.portal_rules.specs.World.{LecturerRow, ProjectRow, StudentRow, Person, Listing}
 use Rattle.portal_rules.specs.Words.{Key, equals, has}
-use Rattle.portal_rules.specs.Sight.{OfficeSees}
+use Rattle.portal_rules.specs.Calls.{OfficeSees}
 
 -- a refused roll: the HTTP status, the error word, and the row, counted from 1, if there is one
 pub record RollRefusal : Type 0 where
@@ -80,7 +81,7 @@ lecturer_roll v =
       same = λ a b. equals a.key b.key && equals a.name b.name && equals a.code b.code && (a.capacity == b.capacity);
       is_bad = λ there r. has (v.office_code ∷ map (λ s. s.code) v.students ++ map (λ l. l.code) there) r.code;
       fault = conflict_at;
-      limit = 300;
+      limit = most_lecturers;
     }
 
 -- the lecturer of a new project must be on the roll
@@ -92,7 +93,7 @@ project_roll v =
           equals a.key b.key && equals a.lecturer b.lecturer && equals a.title b.title && (a.capacity == b.capacity);
       is_bad = λ there r. not (has (map (λ l. l.key) v.lecturers) r.lecturer);
       fault = bad_row_at;
-      limit = 1000;
+      limit = most_projects;
     }
 
 abbrev pub student_roll : OfficeSees → RollRules StudentRow
@@ -102,7 +103,7 @@ student_roll v =
       same = λ a b. equals a.key b.key && equals a.name b.name && equals a.code b.code;
       is_bad = λ there r. has (v.office_code ∷ map (λ l. l.code) v.lecturers ++ map (λ s. s.code) there) r.code;
       fault = conflict_at;
-      limit = 2000;
+      limit = most_students;
     }
 
 -- the position in the list, counted from 1, and the error word; at 0 an applicant is missing
@@ -126,7 +127,7 @@ lacks_one ps ks = list_any (λ p. list_any (λ s. not (has ks s.key)) p.1) ps
 -- the error word for the project that comes next in a student's list, if it is wrong
 abbrev pub wrong_choice : List Listing → List Key → Key → Option (List ℕ)
 wrong_choice catalogue earlier k =
-    if length earlier == 20 then Some (codes "too_long")
+    if length earlier == longest_choice then Some (codes "too_long")
     else if not (in_catalogue catalogue k) then Some (codes "unknown_project")
     else if has earlier k then Some (codes "repeated")
     else None

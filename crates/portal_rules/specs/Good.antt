@@ -7,6 +7,7 @@ use Rattle.portal_rules.specs.World.{World, in_play, lecturer_key, project_key, 
 use Rattle.portal_rules.specs.World.{count_with, given_to, given_with, first, is_left, is_second, applicants_of}
 use Rattle.portal_rules.specs.World.{is_still_to_rank, is_setup, is_published, is_from_ranking, LecturerRow, ProjectRow}
 use Rattle.portal_rules.specs.World.{StudentRow}
+use Rattle.spa_rows.specs.Limits.{most_lecturers, most_projects, most_students, longest_choice, most_places}
 use Rattle.spa_rows.specs.Lines.{is_key}
 
 abbrev pub lecturer_keys : World → List Key
@@ -48,14 +49,14 @@ pub record IsLecturer (r : LecturerRow) : Type 0 where
   pub name : is_name r.name ≡ true
   pub code : is_code r.code ≡ true
   pub low : 1 ≤ r.capacity
-  pub high : r.capacity ≤ 200
+  pub high : r.capacity ≤ most_places
 
 pub record IsProject (r : ProjectRow) : Type 0 where
   pub key : is_key r.key ≡ true
   pub lecturer : is_key r.lecturer ≡ true
   pub title : is_name r.title ≡ true
   pub low : 1 ≤ r.capacity
-  pub high : r.capacity ≤ 200
+  pub high : r.capacity ≤ most_places
 
 pub record IsStudent (r : StudentRow) : Type 0 where
   pub key : is_key r.key ≡ true
@@ -66,9 +67,9 @@ pub record IsStudent (r : StudentRow) : Type 0 where
 abbrev pub codes_of : World → List Key
 codes_of w = w.office ∷ map (λ l. l.row.code) w.lecturers ++ map (λ s. s.row.code) w.students
 
--- at most 20 known projects, none twice
+-- known projects, not too many, and none twice
 pub record IsChoice (projects : List Key) (choice : List Key) : Type 0 where
-  pub few : length choice ≤ 20
+  pub few : length choice ≤ longest_choice
   pub known : AllByRecursion (λ p. has projects p ≡ true) choice
   pub once : AreDistinct choice
 
@@ -88,9 +89,9 @@ pub record Sound (w : World) : Type 0 where
   pub project_forms : AllByRecursion IsProject w.projects
   pub student_forms : AllByRecursion (λ s. IsStudent s.row) w.students
   pub office_form : is_code w.office ≡ true
-  pub few_lecturers : length w.lecturers ≤ 300
-  pub few_projects : length w.projects ≤ 1000
-  pub few_students : length w.students ≤ 2000
+  pub few_lecturers : length w.lecturers ≤ most_lecturers
+  pub few_projects : length w.projects ≤ most_projects
+  pub few_students : length w.students ≤ most_students
   -- a code identifies one caller
   pub codes : AreDistinct (codes_of w)
   pub lecturers_known : AllByRecursion (λ p. has (lecturer_keys w) p.lecturer ≡ true) w.projects

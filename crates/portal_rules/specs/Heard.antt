@@ -7,7 +7,7 @@ use Rattle.portal_rules.specs.World.{World, Student, is_published}
 use Rattle.portal_rules.specs.declared.view.View.{View as Sight}
 use Rattle.portal_rules.specs.declared.view.View.TheVariants as sees
 use Rattle.portal_rules.specs.View.{view}
-use Rattle.portal_rules.specs.Sight.{AbstractCall}
+use Rattle.portal_rules.specs.Calls.{AbstractCall}
 use Rattle.portal_rules.specs.Answer.{Answer, Act, Nothing, Render, decision}
 use Rattle.portal_rules.specs.Run.{Wish, Calls, NoCall, Request}
 
@@ -77,10 +77,10 @@ IsIdle w r = IsIdleWish w r.code r.wish
 
 -- the same keys, perhaps in another order
 pub data Reordered : List Key → List Key → Type 0 where
-  none : Reordered [] []
-  front : (k : Key) {ks ls : List Key} → Reordered ks ls → Reordered (k ∷ ks) (k ∷ ls)
-  turn : (k l : Key) (ks : List Key) → Reordered (k ∷ l ∷ ks) (l ∷ k ∷ ks)
-  chain : {ks ls ms : List Key} → Reordered ks ls → Reordered ls ms → Reordered ks ms
+  Empty : Reordered [] []
+  Front : (k : Key) {ks ls : List Key} → Reordered ks ls → Reordered (k ∷ ks) (k ∷ ls)
+  Turn : (k l : Key) (ks : List Key) → Reordered (k ∷ l ∷ ks) (l ∷ k ∷ ks)
+  Chain : {ks ls ms : List Key} → Reordered ks ls → Reordered ls ms → Reordered ks ms
 
 pub record SameStudent (s t : Student) : Type 0 where
   pub row : s.row ≡ t.row
@@ -89,7 +89,7 @@ pub record SameStudent (s t : Student) : Type 0 where
   pub earlier_choice : Reordered s.earlier_choice t.earlier_choice
   pub earlier_placement : s.earlier_placement ≡ t.earlier_placement
 
-pub record SameButPlaces (v w : World) : Type 0 where
+pub record SameUpToListOrder (v w : World) : Type 0 where
   pub round : v.round ≡ w.round
   pub phase : v.phase ≡ w.phase
   pub office : v.office ≡ w.office
@@ -98,8 +98,8 @@ pub record SameButPlaces (v w : World) : Type 0 where
   pub students : AllZip SameStudent v.students w.students
 
 pub data SameWish : Wish → Wish → Type 0 where
-  equal : (wish : Wish) → SameWish wish wish
-  sets : {ks ls : List Key} → Reordered ks ls
+  Equal : (wish : Wish) → SameWish wish wish
+  Sets : {ks ls : List Key} → Reordered ks ls
       → SameWish (Calls (AbstractCall.SetChoices ks)) (Calls (AbstractCall.SetChoices ls))
 
 pub record SameRequest (q r : Request) : Type 0 where
@@ -109,10 +109,10 @@ pub record SameRequest (q r : Request) : Type 0 where
   pub wish : SameWish q.wish r.wish
 
 -- a call whose reply contains a student's list
-abbrev pub has_places : Wish → Bool
-has_places (Calls AbstractCall.ShowChoices) = true
-has_places (Calls (AbstractCall.SetChoices list)) = true
-has_places _ = false
+abbrev pub shows_own_list : Wish → Bool
+shows_own_list (Calls AbstractCall.ShowChoices) = true
+shows_own_list (Calls (AbstractCall.SetChoices list)) = true
+shows_own_list _ = false
 
 -- an accepted move to published, even if that is the phase already
 abbrev pub moves_to_published : Wish → Answer → Bool
@@ -123,8 +123,10 @@ abbrev pub Unless : Bool → Type 0 → Type 0
 Unless true P = Unit {0}
 Unless false P = P
 
--- replies without a student's list are equal, up to and including the first move to published
-abbrev pub AlikeUntilPublished : List Request → List Answer → List Answer → Type 0
-AlikeUntilPublished (r ∷ rs) (a ∷ told) (b ∷ said) =
-    Unless (has_places r.wish) (a ≡ b) × Unless (moves_to_published r.wish a) (AlikeUntilPublished rs told said)
-AlikeUntilPublished _ _ _ = Unit {0}
+-- what two runs tell is equal, except replies with a student's list, up to and including the first
+-- move to published; the requests and the answers are those of one of them
+abbrev pub AlikeUntilPublished : {T : Type 0} → List Request → List Answer → List T → List T → Type 0
+AlikeUntilPublished (r ∷ rs) (a ∷ answers) (t ∷ told) (s ∷ said) =
+    Unless (shows_own_list r.wish) (t ≡ s)
+    × Unless (moves_to_published r.wish a) (AlikeUntilPublished rs answers told said)
+AlikeUntilPublished _ _ _ _ = Unit {0}

@@ -53,7 +53,7 @@ CountsFaults (Err Memory) old new = new ≡ old
 CountsFaults (Err Store) old new = new ≡ old + 1
 
 -- what every call does to a keeper, where `makes` holds of the worlds that it may make
-pub record Uses {A E : Type 0} (r : Result A E) (old new : KeeperState) (makes : World → Type 0) : Type 0 where
+pub record AfterCall {A E : Type 0} (r : Result A E) (old new : KeeperState) (makes : World → Type 0) : Type 0 where
   -- it makes no keeper clean
   pub clean : new.clean → old.clean
   -- if it succeeds, a clean keeper stays clean, on a clean disk
@@ -67,7 +67,7 @@ pub record Uses {A E : Type 0} (r : Result A E) (old new : KeeperState) (makes :
 
 -- a call that looks at the world
 pub record Looks {A : Type 0} (r : Result A KeepFault) (old new : KeeperState) : Type 0 where
-  pub uses : Uses r old new (λ _. ⊥)
+  pub uses : AfterCall r old new (λ _. ⊥)
   -- it changes nothing
   pub same : new.clean → new.world ≡ old.world
   -- a fault of the store is counted
@@ -75,7 +75,7 @@ pub record Looks {A : Type 0} (r : Result A KeepFault) (old new : KeeperState) :
 
 -- a call that changes the world to one of which `makes` holds
 pub record Changes {A : Type 0} (r : Result A KeepFault) (old new : KeeperState) (makes : World → Type 0) : Type 0 where
-  pub uses : Uses r old new (λ w. old.clean → makes w)
+  pub uses : AfterCall r old new (λ w. old.clean → makes w)
   -- it fails on a broken keeper
   pub alive : OnOk r (IsAlive new)
   -- after `Ok` the world is changed

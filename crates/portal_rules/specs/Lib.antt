@@ -2,7 +2,7 @@ pub mod Base
 pub mod Words
 pub mod World
 pub mod Alone
-pub mod Sight
+pub mod Calls
 pub mod View
 pub mod Bodies
 pub mod Faults

@@ -5,7 +5,7 @@ use Rattle.portal_rules.specs.Words.{Key}
 use Rattle.portal_rules.specs.World.{World, changed, Placements, SecondRound}
 use Rattle.portal_rules.specs.Good.{instance, matching_of, IsLecturer, IsProject, IsStudent}
 use Rattle.portal_rules.specs.View.{view}
-use Rattle.portal_rules.specs.Sight.{AbstractCall}
+use Rattle.portal_rules.specs.Calls.{AbstractCall}
 use Rattle.portal_rules.specs.Answer.{Answer, Act, Nothing, Apply, Publish, Render, decision, answer, Unavailable}
 use Rattle.portal_rules.specs.Answer.{answered}
 use Rattle.portal_rules.specs.Bodies.{phase_body}

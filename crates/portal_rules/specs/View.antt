@@ -5,7 +5,7 @@ use Rattle.portal_rules.specs.Words.{Key, equals, is_empty}
 use Rattle.portal_rules.specs.World as rows
 use Rattle.portal_rules.specs.World.{World, applicants_to, projects_of, is_still_to_rank, in_play, placed_at, pairs_of}
 use Rattle.portal_rules.specs.World.{shown_placement, is_from_ranking, Person, Listing, ProjectRow}
-use Rattle.portal_rules.specs.Sight.{StudentSees, LecturerSees, OfficeSees}
+use Rattle.portal_rules.specs.Calls.{StudentSees, LecturerSees, OfficeSees}
 use Rattle.portal_rules.specs.declared.view.View.{View as Sight}
 use Rattle.portal_rules.specs.declared.view.View.TheVariants.{Nobody, Office, Lecturer, Student}
 

@@ -52,10 +52,21 @@ is_code_byte b = is_ascii_alphanumeric b || b == 45
 abbrev pub is_name_byte : ℕ → Bool
 is_name_byte b = nat_le 32 b && not (b == 127)
 
--- a code has 8 to 40 of these bytes
-abbrev pub is_code : List ℕ → Bool
-is_code bytes = nat_le 8 (length bytes) && nat_le (length bytes) 40 && list_all is_code_byte bytes
+-- the bytes of a code, at least and at most
+abbrev pub shortest_code : ℕ
+shortest_code = 8
 
--- a name or a title has 1 to 160 of these bytes, in UTF-8
+abbrev pub longest_code : ℕ
+longest_code = 40
+
+-- a code has so many of these bytes
+abbrev pub is_code : List ℕ → Bool
+is_code bytes = nat_le shortest_code (length bytes) && nat_le (length bytes) longest_code && list_all is_code_byte bytes
+
+-- the bytes of a name or a title, at most
+abbrev pub longest_name : ℕ
+longest_name = 160
+
+-- a name or a title has 1 to so many of these bytes, in UTF-8
 abbrev pub is_name : List ℕ → Bool
-is_name bytes = nat_le 1 (length bytes) && nat_le (length bytes) 160 && list_all is_name_byte bytes && is_utf8 bytes
+is_name bytes = nat_le 1 (length bytes) && nat_le (length bytes) longest_name && list_all is_name_byte bytes && is_utf8 bytes

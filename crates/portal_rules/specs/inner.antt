@@ -1,4 +1,3 @@
-pub mod ViewCache
 pub mod Tables
 pub mod Room
 pub mod Offers

@@ -14,7 +14,7 @@ ghost use Rattle.portal_rules.specs.Faults.{lacks_one, RollRefusal, Faulty, Took
 ghost use Rattle.portal_rules.specs.Faults.{lecturer_roll, project_roll, student_roll, AreFresh};
 ghost use Rattle.portal_rules.specs.Faults.{wrong_choice, wrong_rank, NoneWrong, IsFirstWrong};
 ghost use Rattle.portal_rules.specs.Faults.{IsFirstRefused};
-ghost use Rattle.portal_rules.specs.Sight.{OfficeSees, AbstractCall};
+ghost use Rattle.portal_rules.specs.Calls.{OfficeSees, AbstractCall};
 ghost use Rattle.portal_rules.specs.declared.rows.LecturerRow.{LecturerRow};
 ghost use Rattle.portal_rules.specs.declared.rows.Person.{Person};
 ghost use Rattle.portal_rules.specs.declared.rows.StudentRow.{StudentRow};
@@ -27,7 +27,7 @@ ghost use Rattle.portal_rules.specs.declared.rows.ProjectRow.{ProjectRow};
 ghost use Rattle.portal_rules.specs.Run.{Request, Step, Serves, Calls, Run, AllAnswered, end_of};
 ghost use Rattle.portal_rules.specs.Run.{OpensSecond, OpensOnce};
 ghost use Rattle.portal_rules.specs.Heard.{IsMember, IsIdle, is_move_or_add, HeardItem, Heard};
-ghost use Rattle.portal_rules.specs.Heard.{replies_to, SameButPlaces, SameRequest};
+ghost use Rattle.portal_rules.specs.Heard.{replies_to, SameUpToListOrder, SameRequest};
 ghost use Rattle.portal_rules.specs.Heard.{AlikeUntilPublished};
 ghost use Rattle.portal_rules.specs.Told.{replies_from, view_from};
 ghost use Rattle.portal_rules.specs.declared.phase.Phase.TheVariants.{Choosing, Published};
@@ -219,9 +219,9 @@ pub fn played_alone()
 pub fn places_unseen()
     ensures { (v w : World) (asked others : List Request) (told said : List Answer)
         (after later : List World)
-        → SameButPlaces v w → AllZip SameRequest asked others
+        → SameUpToListOrder v w → AllZip SameRequest asked others
         → Run v asked told after → AllAnswered told → Run w others said later → AllAnswered said
-        → AlikeUntilPublished asked told said }
+        → AlikeUntilPublished asked told told said }
 {}
 
 /// Law: in a good world, a known code identifies its owner and role, an unknown code nobody.

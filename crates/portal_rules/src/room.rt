@@ -5,7 +5,7 @@ ghost use Rattle.std.specs.List.{list_any};
 ghost use Rattle.portal_rules.specs.Words.{equals, Key};
 ghost use Rattle.portal_rules.specs.inner.Room as meant;
 ghost use Rattle.portal_rules.specs.inner.Room.{own_keys, room_of};
-ghost use Rattle.portal_rules.specs.Bodies as sheet;
+ghost use Rattle.portal_rules.specs.Bodies as bodies;
 
 use crate::rows::{LecturerRow, ProjectRow};
 use spa_rows::Key;
@@ -13,7 +13,7 @@ use std::alloc::{AllocError, Global};
 
 /// Returns how many students the pairs of a result give to the project.
 pub fn students_at(pairs: &[(Key, Key)], project: &Key) -> usize
-    ensures { result ≡ sheet.students_at pairs.now project.now }
+    ensures { result ≡ bodies.students_at pairs.now project.now }
 {
     pairs.iter().filter(|pair| pair.1 == *project).count()
 }

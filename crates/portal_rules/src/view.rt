@@ -21,7 +21,7 @@ pub struct StudentView {
 }
 
 impl Model for StudentView {
-    ghost use Rattle.portal_rules.specs.Sight.{StudentSees};
+    ghost use Rattle.portal_rules.specs.Calls.{StudentSees};
 
     ghost Value = { StudentSees };
 
@@ -49,7 +49,7 @@ pub struct LecturerView {
 
 impl Model for LecturerView {
     ghost use Rattle.std.specs.Prelude.{map, option_map};
-    ghost use Rattle.portal_rules.specs.Sight.{LecturerSees};
+    ghost use Rattle.portal_rules.specs.Calls.{LecturerSees};
 
     ghost Value = { LecturerSees };
 
@@ -80,7 +80,7 @@ pub struct OfficeView {
 }
 
 impl Model for OfficeView {
-    ghost use Rattle.portal_rules.specs.Sight.{OfficeSees};
+    ghost use Rattle.portal_rules.specs.Calls.{OfficeSees};
 
     ghost Value = { OfficeSees };
 

@@ -62,7 +62,8 @@ line_told : (input bytes left : Text) → input ≡ bytes ++ left → TakesFront
     → length (before_first is_feed bytes) < 64 → first_line input ≡ first_line bytes
 line_told input bytes left is (taken, inr none) short =
     ap first_line (is ∙ ap (λ (l : Text). bytes ++ l) none ∙ append-nil bytes)
-line_told input bytes left is (taken, inl (inl less)) short = ap first_line is ∙ ap without_return (feed_found bytes left (feed_at bytes less))
+line_told input bytes left is (taken, inl (inl less)) short = ap first_line is
+    ∙ ap without_return (feed_found bytes left (feed_at bytes less))
 line_told input bytes left is (taken, inl (inr long)) short =
     let few : length bytes ≡ length bytes = refl in
     let size = length-prefix_len (λ b. not (is_feed b)) bytes in

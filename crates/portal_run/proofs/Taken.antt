@@ -37,7 +37,8 @@ last_taken n most k a b c before after first low room adds none =
 pub few_taken : (n m : ℕ) (a b : Option Text) → n ≤ m → ConsumesAtMost n a b → TakesFew m a b
 few_taken n m None b fits taken = tt
 few_taken n m (Some bytes) None fits taken = absurd taken.2
-few_taken n m (Some bytes) (Some rest) fits taken = (rest, refl, omega (arith, fits, taken.1, ap length taken.2, length-append taken.0 rest))
+few_taken n m (Some bytes) (Some rest) fits taken =
+    (rest, refl, omega (arith, fits, taken.1, ap length taken.2, length-append taken.0 rest))
 
 pub same_left : (m : ℕ) (a : Option Text) → TakesFew m a a
 same_left m None = tt

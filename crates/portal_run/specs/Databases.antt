@@ -23,7 +23,7 @@ use Rattle.portal_store.specs.declared.store.OpenFault.{OpenFault}
 use Rattle.portal_store.specs.declared.store.UpgradeFault.{UpgradeFault}
 use Rattle.portal_store.specs.declared.store.UpgradeFault.TheVariants.{NotPortal, Exists, Store, Memory}
 use Rattle.portal_store.specs.Crash.{as_upgrading}
-use Rattle.portal_file.specs.Tables.{Work}
+use Rattle.portal_file.specs.Tables.{FileEffect}
 use Rattle.portal_file.specs.Jobs.{Devices, MakesTables, PipesStream, ReportsWorld, ServesRequests, UpgradesTables}
 use Rattle.portal_words.specs.declared.command.Command.{Command}
 use Rattle.portal_words.specs.declared.command.Command.TheVariants as command
@@ -34,10 +34,10 @@ use Rattle.portal_run.specs.Lines.{Says, bad_code, fault, hall_line, listening_l
 -- of the databases of a machine: what may stand at a path, and what was done over the database there
 pub record Known : Type 1 where
   pub stands : Text → Place → Type 0
-  pub over : Text → (Work → Type 0) → Type 0
+  pub over : Text → (FileEffect → Type 0) → Type 0
 
 -- the same of these databases
-abbrev pub known : {F C : Type 0} → (F → Text → Place → Type 0) → (F → Text → C → (Work → Type 0) → Type 0) → F → Known
+abbrev pub known : {F C : Type 0} → (F → Text → Place → Type 0) → (F → Text → C → (FileEffect → Type 0) → Type 0) → F → Known
 known {F} {C} stands over files = record {
   stands = stands files;
   over = λ path Does. (closed : C) × over files path closed Does;
@@ -48,7 +48,7 @@ pub record Job (R : Type 0) : Type 1 where
   -- why it refuses what stands at the path, if it does
   pub refuses : Place → Option UpgradeFault
   -- what is done, with this result
-  pub does : R → Work → Type 0
+  pub does : R → FileEffect → Type 0
   -- what the output then holds, if that is known
   pub held : R → Option Text
   -- what is said of the result

@@ -23,7 +23,7 @@ use std::io::{Read, Write};
 use std::{fs, io};
 
 /// The highest exit status of a help text or a usage error; 3 reports a fault.
-const MOST: u8 = 2;
+const WORST_STATUS: u8 = 2;
 
 /// Reads an instance file from a reader, and writes the answer.
 fn answer<R: Read, W: Write>(alloc: Global, task: Task, reader: &mut R, writer: &mut W) -> u8
@@ -186,7 +186,7 @@ pub fn run<S: AsStr, F: Databases, R: Read, W: Write>(
 {
     match command_of(rt.alloc(), words) {
         Ok(Asked::Do(command)) => run_command(rt, command, files, reader, writer),
-        Ok(Asked::Show { text, status }) => say(writer, text.as_bytes(), status.min(MOST)),
+        Ok(Asked::Show { text, status }) => say(writer, text.as_bytes(), status.min(WORST_STATUS)),
         Err(_) => say_fault(writer, Cause::Memory),
     }
 }

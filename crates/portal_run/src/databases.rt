@@ -7,7 +7,7 @@ ghost use Rattle.portal_desk.specs.Kept.{TakesAtMost, taken_limit};
 ghost use Rattle.portal_file.specs.Chain.{OverClosed};
 ghost use Rattle.portal_file.specs.Jobs.{MakesTables, PipesStream, ReportsWorld, ServesRequests};
 ghost use Rattle.portal_file.specs.Jobs.{UpgradesTables};
-ghost use Rattle.portal_file.specs.Tables.{Work};
+ghost use Rattle.portal_file.specs.Tables.{FileEffect};
 ghost use Rattle.portal_run.specs.declared.place.Place.{Place};
 
 use crate::place::{Place, place_of};
@@ -30,7 +30,7 @@ pub trait Databases: Drop {
     ghost stands: { Self → List ℕ → Place → Type 0 };
 
     /// What was done over the database at a path.
-    ghost over: { Self → List ℕ → Self.Closed → (Work → Type 0) → Type 0 };
+    ghost over: { Self → List ℕ → Self.Closed → (FileEffect → Type 0) → Type 0 };
 
     /// Returns what stands at a path, or that memory ran out.
     fn place(&self, rt: &HostRuntime, path: &str) -> Result<Place, AllocError>

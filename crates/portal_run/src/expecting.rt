@@ -5,7 +5,7 @@ ghost use Rattle.portal_run.specs.Databases.{unless_database, unless_room};
 ghost use Rattle.portal_run.specs.inner.Input.{Expects, connect_refusal};
 
 use crate::databases::Databases;
-use crate::output::{Fault, Refusal};
+use crate::output::{ToLine, UpgradeFault};
 use crate::place::Place;
 use sqlite::Error;
 
@@ -15,14 +15,14 @@ pub(crate) fn expect_database<F: Databases>(
     rt: &HostRuntime,
     files: &F,
     path: &str,
-) -> Result<(), Refusal>
+) -> Result<(), UpgradeFault>
     ensures { Expects (F.stands files.now path.now) unless_database result }
 {
     match files.place(rt, path) {
         Ok(Place::Database) => Ok(()),
-        Ok(Place::Missing | Place::Empty) => Err(Refusal::NotPortal),
-        Ok(Place::Other) => Err(Refusal::Store),
-        Err(_) => Err(Refusal::Memory),
+        Ok(Place::Missing | Place::Empty) => Err(UpgradeFault::NotPortal),
+        Ok(Place::Other) => Err(UpgradeFault::Store),
+        Err(_) => Err(UpgradeFault::Memory),
     }
 }
 
@@ -31,21 +31,21 @@ pub(crate) fn expect_room<F: Databases>(
     rt: &HostRuntime,
     files: &F,
     path: &str,
-) -> Result<(), Refusal>
+) -> Result<(), UpgradeFault>
     ensures { Expects (F.stands files.now path.now) unless_room result }
 {
     match files.place(rt, path) {
-        Ok(Place::Other) => Err(Refusal::Store),
+        Ok(Place::Other) => Err(UpgradeFault::Store),
         Ok(_) => Ok(()),
-        Err(_) => Err(Refusal::Memory),
+        Err(_) => Err(UpgradeFault::Memory),
     }
 }
 
 /// Returns what a command did over its database, or why the database was refused. The files are let
 /// go: committed changes last even if closing failed.
-pub(crate) fn outcome<T, E: Fault, F: Drop>(
+pub(crate) fn outcome<T, E: ToLine, F: Drop>(
     done: Result<(Result<T, E>, F), Error>,
-) -> Result<T, Refusal>
+) -> Result<T, UpgradeFault>
     ensures ok { IfOk done (λ r. IfOk r.0 (λ x. result ≡ Ok x)) }
     ensures refused { IfOk done (λ r. IfErr r.0 (λ fault. result ≡ Err (E.refusal fault))) }
     ensures closed { IfErr done (λ error. result ≡ Err (connect_refusal error)) }

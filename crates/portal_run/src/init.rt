@@ -26,7 +26,7 @@ enum NoCode {
 }
 
 /// The most bytes of the input that are read.
-const MOST: usize = 64;
+const CODE_LINE_LIMIT: usize = 64;
 
 /// Returns the bytes before the first line feed, or all.
 fn before_feed(bytes: &[u8]) -> &[u8]
@@ -48,20 +48,20 @@ fn stripped(line: &[u8]) -> &[u8]
     }
 }
 
-/// Returns the first line without its line end, or `None` if it has `MOST` bytes or more.
+/// Returns the first line without its line end, or `None` if it has `CODE_LINE_LIMIT` bytes or more.
 fn line_of(bytes: &[u8]) -> Option<&[u8]>
     ensures { MatchOption result (64 ≤ length (before_first (λ b. b == 10) bytes.now))
         (λ line. (line.now ≡ first_line bytes.now)
         × (length (before_first (λ b. b == 10) bytes.now) < 64)) }
 {
     let line = before_feed(bytes);
-    if line.len() >= MOST {
+    if line.len() >= CODE_LINE_LIMIT {
         return None;
     }
     Some(stripped(line))
 }
 
-/// Reads the code in the first line of an input, without its line end. A line of `MOST` bytes or
+/// Reads the code in the first line of an input, without its line end. A line of `CODE_LINE_LIMIT` bytes or
 /// more is none.
 fn code_of<R: Read>(alloc: Global, reader: &mut R) -> Result<Code, NoCode>
     ensures takes { ConsumesAtMost 64 (R.remaining reader.old) (R.remaining reader.new) }

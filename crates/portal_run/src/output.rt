@@ -16,7 +16,7 @@ use sqlite::{Error, ErrorCode};
 use std::io::Write;
 
 // Each reason why some command refuses a database is one of an upgrade's.
-pub(crate) use portal_store::UpgradeFault as Refusal;
+pub(crate) use portal_store::UpgradeFault;
 
 /// Writes a text, and returns whether all of it was written.
 fn write_whole<W: Write>(writer: &mut W, text: &[u8]) -> bool
@@ -73,77 +73,77 @@ pub(crate) fn say_fault<W: Write>(writer: &mut W, cause: Cause) -> u8
 }
 
 /// What keeps a command from its work over a database.
-pub(crate) trait Fault {
+pub(crate) trait ToLine {
     // why the database is refused
     ghost refusal: { Self → UpgradeFault };
 
     /// Converts the fault.
-    fn why(self) -> Refusal
+    fn why(self) -> UpgradeFault
         ensures { result ≡ refusal self };
 }
 
-impl Fault for Error {
+impl ToLine for Error {
     ghost refusal = { connect_refusal };
 
-    fn why(self) -> Refusal {
+    fn why(self) -> UpgradeFault {
         match self {
-            Error::SqliteFailure(ErrorCode::OutOfMemory) => Refusal::Memory,
-            _ => Refusal::Store,
+            Error::SqliteFailure(ErrorCode::OutOfMemory) => UpgradeFault::Memory,
+            _ => UpgradeFault::Store,
         }
     }
 }
 
-impl Fault for OpenFault {
+impl ToLine for OpenFault {
     ghost refusal = { as_upgrading };
 
-    fn why(self) -> Refusal {
+    fn why(self) -> UpgradeFault {
         match self {
-            OpenFault::NotPortal => Refusal::NotPortal,
-            OpenFault::OtherVersion => Refusal::OtherVersion,
-            OpenFault::Damaged => Refusal::Damaged,
-            OpenFault::Store => Refusal::Store,
-            OpenFault::Memory => Refusal::Memory,
+            OpenFault::NotPortal => UpgradeFault::NotPortal,
+            OpenFault::OtherVersion => UpgradeFault::OtherVersion,
+            OpenFault::Damaged => UpgradeFault::Damaged,
+            OpenFault::Store => UpgradeFault::Store,
+            OpenFault::Memory => UpgradeFault::Memory,
         }
     }
 }
 
-impl Fault for CreateFault {
+impl ToLine for CreateFault {
     ghost refusal = { create_refusal };
 
-    fn why(self) -> Refusal {
+    fn why(self) -> UpgradeFault {
         match self {
-            CreateFault::Exists => Refusal::Exists,
-            CreateFault::Store => Refusal::Store,
-            CreateFault::Memory => Refusal::Memory,
+            CreateFault::Exists => UpgradeFault::Exists,
+            CreateFault::Store => UpgradeFault::Store,
+            CreateFault::Memory => UpgradeFault::Memory,
         }
     }
 }
 
-impl Fault for Refusal {
+impl ToLine for UpgradeFault {
     ghost refusal = { λ why. why };
 
-    fn why(self) -> Refusal {
+    fn why(self) -> UpgradeFault {
         self
     }
 }
 
 /// Reports why a command refuses a database, and returns the exit status.
-pub(crate) fn refuse<W: Write>(writer: &mut W, why: Refusal) -> u8
+pub(crate) fn refuse<W: Write>(writer: &mut W, why: UpgradeFault) -> u8
     ensures says { Says (refusal why) result (W.contents writer.old) (W.contents writer.new) }
     ensures bound { result ≤ 3 }
 {
     match why {
-        Refusal::NotPortal => say(writer, b"refused not_portal\n", 2),
-        Refusal::OtherVersion => say(writer, b"refused other_version\n", 2),
-        Refusal::Damaged => say(writer, b"refused damaged\n", 2),
-        Refusal::Exists => say(writer, b"refused exists\n", 2),
-        Refusal::Store => say_fault(writer, Cause::Store),
-        Refusal::Memory => say_fault(writer, Cause::Memory),
+        UpgradeFault::NotPortal => say(writer, b"refused not_portal\n", 2),
+        UpgradeFault::OtherVersion => say(writer, b"refused other_version\n", 2),
+        UpgradeFault::Damaged => say(writer, b"refused damaged\n", 2),
+        UpgradeFault::Exists => say(writer, b"refused exists\n", 2),
+        UpgradeFault::Store => say_fault(writer, Cause::Store),
+        UpgradeFault::Memory => say_fault(writer, Cause::Memory),
     }
 }
 
 /// Writes `line` on success, or reports the refusal, and returns the exit status.
-pub(crate) fn say_done<W: Write>(writer: &mut W, done: Result<(), Refusal>, line: &[u8]) -> u8
+pub(crate) fn say_done<W: Write>(writer: &mut W, done: Result<(), UpgradeFault>, line: &[u8]) -> u8
     ensures done { IfOk done (λ _. Says (success line.now) result (W.contents writer.old)
         (W.contents writer.new)) }
     ensures refused { IfErr done (λ why. Says (refusal why) result

@@ -7,6 +7,6 @@ pub use Rattle.portal_serve.specs.inner.Outcomes.{is_faulty}
 pub use Rattle.portal_serve.specs.inner.Told.{IsOfficeReport}
 pub use Rattle.portal_serve.specs.Streams.{Connection, Drops, dropped_after, dropped_limit, Passes, Series}
 pub use Rattle.portal_serve.specs.Streams.{ServesAll, ServesInTurn, ServesStream}
-pub use Rattle.portal_desk.specs.Session.{ServesOne, Settles, SettlesBy}
-pub use Rattle.portal_desk.specs.Kept.{Kept, Worked}
+pub use Rattle.portal_desk.specs.Session.{ServesOne, Settles, FailsBy}
+pub use Rattle.portal_desk.specs.Kept.{DeskState, Worked}
 pub use Rattle.portal_rules.specs.Keeping.{KeeperState}

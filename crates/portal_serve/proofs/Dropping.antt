@@ -1,13 +1,12 @@
 -- Bytes that are dropped piece by piece, after a stream is served.
 use Rattle.portal_serve.proofs.Base.{◌+◌, ◌≤◌, ℕ, List, [], ◌++◌, length, length-append, Option, Some, None, arith}
 use Rattle.portal_serve.proofs.Base.{Drops, dropped_after, dropped_limit}
-use Rattle.portal_serve.proofs.Base.{Kept, KeeperState, Result, ServesOne, ServesStream}
+use Rattle.portal_serve.proofs.Base.{DeskState, KeeperState, Result, ServesOne, ServesStream}
 use Rattle.std.specs.Prelude.{◌-◌, IfSome, take}
 use Rattle.std.specs.Io.KnownBytes.{Consumes, Keeps}
 use Rattle.portal_desk.specs.declared.served.Served.{Served}
 use Rattle.portal_desk.specs.declared.served.ServeFault.{ServeFault}
-use Rattle.portal_desk.specs.Session.{IsSession, count_of, finish_of}
-use Rattle.portal_wire.specs.Conversation.{Exchange}
+use Rattle.portal_desk.specs.Session.{Finish, SomeSession}
 use Rattle.std.proofs.KnownBytes.{Appends-kept, Consumes-kept, Consumes-nil, Consumes-trans}
 use Rattle.std.proofs.lemmas.List.{length-take}
 
@@ -35,39 +34,22 @@ pub dropped_kept : (a b c : Option (List ℕ)) (room : ℕ) → Dropped a b room
 dropped_kept a b c room so same =
     dropped_all a c room (record { bytes = so.bytes; consumed = Consumes-kept a b c so.bytes so.consumed same; within = so.within })
 
--- what a call says of known bytes
-abbrev Serves : {K : Type 0} → (K → KeeperState) → Result Served ServeFault → Kept K → Kept K → Option (List ℕ)
-    → Option (List ℕ) → Option (List ℕ) → Option (List ℕ) → Type 0
-Serves state r old new source left before after = IfSome source (λ bytes. (exchanges : List Exchange)
-    × IsSession state (record {
-      old = old.keeper;
-      new = new.keeper;
-      bytes = bytes;
-      before = before;
-      after = after;
-      count = count_of r;
-      finish = finish_of r new.failed left;
-      exchanges = exchanges;
-    }))
-
 -- a writer that keeps its bytes afterwards
-serves_kept : {K : Type 0} (state : K → KeeperState) (r : Result Served ServeFault) (old new : Kept K)
-    (source left before mid after : Option (List ℕ))
-    → Serves state r old new source left before mid → Keeps mid after → Serves state r old new source left before after
-serves_kept state r old new None left before mid after h same = tt
-serves_kept state r old new (Some bytes) left before mid after (es, is) same = (
-  es,
-  record {
-    moves = is.moves;
-    counted = is.counted;
-    written = is.written;
-    adds = Appends-kept before mid after is.written is.adds same;
-    tells = is.tells;
-  },
-)
+serves_kept : {K : Type 0} (state : K → KeeperState) (old new : K) (count : ℕ) (finish : Finish)
+    (source before mid after : Option (List ℕ))
+    → IfSome source (SomeSession state old new before mid count finish) → Keeps mid after
+    → IfSome source (SomeSession state old new before after count finish)
+serves_kept state old new count finish None before mid after h same = tt
+serves_kept state old new count finish (Some bytes) before mid after is same = record {
+  exchanges = is.exchanges;
+  counted = is.counted;
+  written = is.written;
+  adds = Appends-kept before mid after is.written is.adds same;
+  session = is.session;
+}
 
 -- a stream is served, and then closed
-pub stream_closed : {K : Type 0} (state : K → KeeperState) (r : Result Served ServeFault) (old new : Kept K)
+pub stream_closed : {K : Type 0} (state : K → KeeperState) (r : Result Served ServeFault) (old new : DeskState K)
     (source unread left before mid after : Option (List ℕ))
     → ServesOne state r old new source unread before mid → Drops (dropped_after r) unread left → Keeps mid after
     → ServesStream state r old new source left before after
@@ -75,7 +57,7 @@ stream_closed state r old new source unread left before mid after one drops same
   unread = unread;
   serves = record {
     worked = one.worked;
-    served = serves_kept state r old new source unread before mid after one.served same;
+    served = serves_kept state old.keeper new.keeper _ _ source before mid after one.served same;
     taken = one.taken;
     stays = one.stays;
     settles = one.settles;

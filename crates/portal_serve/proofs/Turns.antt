@@ -1,6 +1,6 @@
 -- Connections that are served in turn.
 use Rattle.portal_serve.proofs.Base.{◌≡◌, ◌∙◌, ℕ, List, [], ◌∷◌, ◌++◌, Option, Some, None, refl, sym, ap, subst}
-use Rattle.portal_serve.proofs.Base.{Connection, Kept, KeeperState, Passes, Series, ServesAll, ServesInTurn, ServesStream}
+use Rattle.portal_serve.proofs.Base.{Connection, DeskState, KeeperState, Passes, Series, ServesAll, ServesInTurn, ServesStream}
 use Rattle.portal_serve.proofs.Base.{Settles, Worked}
 use Rattle.std.specs.Prelude.{map}
 use Rattle.std.specs.Option.{option_to_list}
@@ -28,13 +28,13 @@ passes_none None = tt
 passes_none (Some s) =
     (s.waiting, refl, ap (λ l. Some (record { served = l; waiting = s.waiting })) (sym (append-nil s.served)))
 
-all_more : {K : Type 0} (state : K → KeeperState) (old : Kept K) (xs : List Connection) (mid : Kept K) (ys : List Connection)
-    (new : Kept K) → ServesAll state old xs mid → ServesAll state mid ys new → ServesAll state old (xs ++ ys) new
+all_more : {K : Type 0} (state : K → KeeperState) (old : DeskState K) (xs : List Connection) (mid : DeskState K) (ys : List Connection)
+    (new : DeskState K) → ServesAll state old xs mid → ServesAll state mid ys new → ServesAll state old (xs ++ ys) new
 all_more state old [] mid ys new p q = subst (λ k. ServesAll state k ys new) p q
 all_more state old (x ∷ xs) mid ys new (next, one, is, rest) q = (next, one, is, all_more state next xs mid ys new rest q)
 
 -- some connections, and then others
-pub turns_more : {K : Type 0} (state : K → KeeperState) (old mid new : Kept K) (a b c : Option Series) (os ps : List Outcome)
+pub turns_more : {K : Type 0} (state : K → KeeperState) (old mid new : DeskState K) (a b c : Option Series) (os ps : List Outcome)
     → ServesInTurn state old mid a b os → ServesInTurn state mid new b c ps → ServesInTurn state old new a c (os ++ ps)
 turns_more state old mid new a b c os ps p q = record {
   connections = p.connections ++ q.connections;
@@ -45,17 +45,17 @@ turns_more state old mid new a b c os ps p q = record {
 }
 
 -- some connections, and then nobody
-pub turns_end : {K : Type 0} (state : K → KeeperState) (old mid new : Kept K) (a b c : Option Series) (os : List Outcome)
+pub turns_end : {K : Type 0} (state : K → KeeperState) (old mid new : DeskState K) (a b c : Option Series) (os : List Outcome)
     → ServesInTurn state old mid a b os → ServesInTurn state mid new b c [] → ServesInTurn state old new a c os
 turns_end state old mid new a b c os p q =
     subst (ServesInTurn state old new a c) (append-nil os) (turns_more state old mid new a b c os [] p q)
 
 -- no connection
-pub turns_none : {K : Type 0} (state : K → KeeperState) (desk : Kept K) (a : Option Series) → ServesInTurn state desk desk a a []
+pub turns_none : {K : Type 0} (state : K → KeeperState) (desk : DeskState K) (a : Option Series) → ServesInTurn state desk desk a a []
 turns_none state desk a = record { connections = []; passes = passes_none a; serves = refl; told = refl }
 
 -- one connection
-pub turns_one : {K : Type 0} (state : K → KeeperState) (old new : Kept K) (a b : Option Series) (c : Connection)
+pub turns_one : {K : Type 0} (state : K → KeeperState) (old new : DeskState K) (a b : Option Series) (c : Connection)
     → Passes a b (c ∷ [])
     → ServesStream state c.outcome.ended old new c.source c.left c.before c.after → c.outcome.failed ≡ new.failed
     → ServesInTurn state old new a b (c.outcome ∷ [])
@@ -67,16 +67,16 @@ turns_one state old new a b c passes one failed = record {
 }
 
 -- what one connection did to the desk
-pub record Turned {K : Type 0} (state : K → KeeperState) (o : Outcome) (old new : Kept K) : Type 0 where
+pub record Turned {K : Type 0} (state : K → KeeperState) (o : Outcome) (old new : DeskState K) : Type 0 where
   pub worked : Worked state old new
   pub settles : Settles o.ended old.failed new.failed
   pub failed : o.failed ≡ new.failed
 
-pub turned : {K : Type 0} (state : K → KeeperState) (old new : Kept K) (a b : Option Series) (o : Outcome)
+pub turned : {K : Type 0} (state : K → KeeperState) (old new : DeskState K) (a b : Option Series) (o : Outcome)
     → ServesInTurn state old new a b (o ∷ []) → Turned state o old new
 turned {K} state old new a b o turns = go turns.connections turns.serves turns.told
   where
-    one : (c : Connection) (next : Kept K) → ServesStream state c.outcome.ended old next c.source c.left c.before c.after
+    one : (c : Connection) (next : DeskState K) → ServesStream state c.outcome.ended old next c.source c.left c.before c.after
         → c.outcome.failed ≡ next.failed → Turned state c.outcome old next
     one c next stream failed = record { worked = stream.serves.worked; settles = stream.serves.settles; failed = failed }
 
@@ -86,15 +86,15 @@ turned {K} state old new a b o turns = go turns.connections turns.serves turns.t
     go (c ∷ []) (next, stream, failed, last) told =
         let is : c.outcome ≡ o = cc in
         subst (λ (p : Outcome). Turned state p old new) is
-        (subst (λ (k : Kept K). Turned state c.outcome old k) (sym last) (one c next stream failed))
+        (subst (λ (k : DeskState K). Turned state c.outcome old k) (sym last) (one c next stream failed))
 
 -- no outcome is told
-pub turns_untold : {K : Type 0} (state : K → KeeperState) (old new : Kept K) (a b : Option Series) (r : Option Outcome)
+pub turns_untold : {K : Type 0} (state : K → KeeperState) (old new : DeskState K) (a b : Option Series) (r : Option Outcome)
     → ServesInTurn state old new a b (option_to_list r) → r ≡ None → ServesInTurn state old new a b []
 turns_untold state old new a b r turns none = subst (λ (o : Option Outcome). ServesInTurn state old new a b (option_to_list o)) none turns
 
 -- nobody was served, so the desk is as before
-pub turns_nobody : {K : Type 0} (state : K → KeeperState) (old new : Kept K) (a b : Option Series)
+pub turns_nobody : {K : Type 0} (state : K → KeeperState) (old new : DeskState K) (a b : Option Series)
     → ServesInTurn state old new a b [] → new ≡ old
 turns_nobody {K} state old new a b turns = go turns.connections turns.serves turns.told
   where

@@ -9,13 +9,13 @@ use Rattle.portal_serve.specs.declared.server.Outcome.{Outcome}
 use Rattle.portal_serve.specs.declared.server.Hall.{Hall}
 use Rattle.portal_serve.specs.declared.server.Ended.{Ended}
 use Rattle.portal_serve.specs.declared.server.Ended.TheVariants.{Full, StoreFault}
-use Rattle.portal_rules.specs.Sight.{OfficeSees}
+use Rattle.portal_rules.specs.Calls.{OfficeSees}
 use Rattle.portal_rules.specs.World.{has_result}
-use Rattle.portal_rules.specs.Bodies.{report_text, line_feed}
+use Rattle.portal_rules.specs.Bodies.{result_text, line_feed}
 use Rattle.portal_reports.specs.Status.{status_text}
 use Rattle.portal_wire.specs.Conversation.{Exchange}
 use Rattle.portal_rules.specs.Keeping.{KeeperState}
-use Rattle.portal_desk.specs.Kept.{Kept, Moves, Worked}
+use Rattle.portal_desk.specs.Kept.{DeskState, Moves, Worked}
 
 -- some requests of which this holds were served, whatever is known of their bytes
 abbrev pub IsMovedBy : (List Exchange → Type 0) → KeeperState → KeeperState → Type 0
@@ -53,7 +53,7 @@ pub record CountsOutcomes (hall : Hall) (outcomes : List Outcome) : Type 0 where
   pub ends : EndsBy hall.ended outcomes
 
 -- what serving up to `most` connections on a desk did, with this result
-pub record ServesHall {K : Type 0} (state : K → KeeperState) (hall : Hall) (most : ℕ) (old new : Kept K) : Type 0 where
+pub record ServesHall {K : Type 0} (state : K → KeeperState) (hall : Hall) (most : ℕ) (old new : DeskState K) : Type 0 where
   pub worked : Worked state old new
   -- as many connections are faulty as were accepted, or fewer
   pub faults : hall.faults ≤ hall.accepted
@@ -70,4 +70,4 @@ pub record ServesHall {K : Type 0} (state : K → KeeperState) (hall : Hall) (mo
 
 -- the report: the state of the round and, once there is a result, an empty line and the result
 abbrev pub office_report : OfficeSees → List ℕ
-office_report v = status_text v ++ (if has_result v.round v.phase then line_feed ++ report_text v else [])
+office_report v = status_text v ++ (if has_result v.round v.phase then line_feed ++ result_text v else [])

@@ -4,7 +4,7 @@ use Rattle.std.specs.Io.KnownBytes.{Consumes}
 use Rattle.portal_rules.specs.Keeping.{KeeperState}
 use Rattle.portal_desk.specs.declared.served.Served.{Served}
 use Rattle.portal_desk.specs.declared.served.ServeFault.{ServeFault}
-use Rattle.portal_desk.specs.Kept.{Kept}
+use Rattle.portal_desk.specs.Kept.{DeskState}
 use Rattle.portal_desk.specs.Session.{ServesOne}
 use Rattle.portal_serve.specs.declared.server.Outcome.{Outcome}
 use Rattle.portal_serve.specs.Hall.{is_own_fault}
@@ -23,7 +23,7 @@ dropped_after r = if is_own_fault r then 0 else dropped_limit
 
 -- what serving a stream on a desk does, with this result: `source` and `left` are what the reader
 -- has to give before and after it, `before` and `after` what the writer holds, where that is known
-pub record ServesStream {K : Type 0} (state : K → KeeperState) (r : Result Served ServeFault) (old new : Kept K)
+pub record ServesStream {K : Type 0} (state : K → KeeperState) (r : Result Served ServeFault) (old new : DeskState K)
     (source left before after : Option (List ℕ)) : Type 0 where
   -- what the reader has to give after the last request
   pub unread : Option (List ℕ)
@@ -54,14 +54,14 @@ Passes old new more = IfSome old (λ series. (rest : List (Option (List ℕ)))
     × (new ≡ Some (record { served = series.served ++ more; waiting = rest })))
 
 -- each connection is served on the desk that the one before left
-abbrev pub ServesAll : {K : Type 0} → (K → KeeperState) → Kept K → List Connection → Kept K → Type 0
+abbrev pub ServesAll : {K : Type 0} → (K → KeeperState) → DeskState K → List Connection → DeskState K → Type 0
 ServesAll state old [] new = new ≡ old
 ServesAll state old (c ∷ cs) new =
-    (next : Kept _) × ServesStream state c.outcome.ended old next c.source c.left c.before c.after
+    (next : DeskState _) × ServesStream state c.outcome.ended old next c.source c.left c.before c.after
     × (c.outcome.failed ≡ next.failed) × ServesAll state next cs new
 
 -- the next connections of a series were served in turn on a desk, and had these outcomes
-pub record ServesInTurn {K : Type 0} (state : K → KeeperState) (old new : Kept K) (before after : Option Series)
+pub record ServesInTurn {K : Type 0} (state : K → KeeperState) (old new : DeskState K) (before after : Option Series)
     (outcomes : List Outcome) : Type 0 where
   pub connections : List Connection
   pub passes : Passes before after connections

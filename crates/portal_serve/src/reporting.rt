@@ -2,7 +2,7 @@
 
 ghost use Rattle.std.specs.Prelude.{◌≡◌, ◌+◌, Err, IfOk, OnOk};
 ghost use Rattle.portal_rules.specs.Good.{Good};
-ghost use Rattle.portal_rules.specs.Keeping.{IsAlive, Uses};
+ghost use Rattle.portal_rules.specs.Keeping.{IsAlive, AfterCall};
 ghost use Rattle.portal_rules.specs.View.{office_sees};
 ghost use Rattle.portal_serve.specs.Hall.{office_report};
 ghost use Rattle.portal_serve.specs.inner.Told.{IsOfficeReport, IsOther};
@@ -42,7 +42,7 @@ fn report_for(alloc: Global, view: &View) -> Result<Vec<u8>, KeepFault>
 ///
 /// The keeper failed, or memory ran out. A code that is not the office's is a fault of the store.
 pub fn report<K: Keeper>(alloc: Global, keeper: &mut K, office: &Code) -> Result<Vec<u8>, KeepFault>
-    ensures uses { Uses result (K.state keeper.old) (K.state keeper.new) (λ _. ⊥) }
+    ensures uses { AfterCall result (K.state keeper.old) (K.state keeper.new) (λ _. ⊥) }
     ensures alive { OnOk result (IsAlive (K.state keeper.new)) }
     ensures same { (K.state keeper.new).clean
         → (K.state keeper.new).world ≡ (K.state keeper.old).world }

@@ -15,7 +15,8 @@ pub as_many : (keys : List ℕ) (p : Row → Bool) (show : Row → Row) (table s
     → length shown ≡ length (filter p table)
 as_many keys p show table shown h =
     let keyed : Row → Row × Row = λ r. (columns keys r, show r) in
-    ap length h.is ∙ length-map h.keyed (λ k. k.1) ∙ length_permutation (map keyed (filter p table)) h.keyed h.same ∙ length-map (filter p table) keyed
+    ap length h.is ∙ length-map h.keyed (λ k. k.1) ∙ length_permutation (map keyed (filter p table)) h.keyed h.same
+    ∙ length-map (filter p table) keyed
 
 -- some row has the text, so the key is on the roll
 there_if : (k : Key) (table : List Row) → length (filter (has_text 1 k) table) ≢ 0 → has (map row_key table) k ≡ true
@@ -36,7 +37,8 @@ nobody : (k : Key) (table : List Row) → AllByRecursion IsLecturerRow table →
     → AllByRecursion (λ r. equals (row_key r) k ≡ false) table
 nobody k table all none =
     all_two IsLecturerRow (λ r. has_text 1 k r ≡ false) (λ r. equals (row_key r) k ≡ false) (λ r f e. sym (key_test k r f) ∙ e) table all
-    (none_passes (λ r. r) (has_text 1 k) table (ap (λ (l : List Row). is_empty (map (λ r. r) l)) (nil_from_length (filter (has_text 1 k) table) none)))
+    (none_passes (λ r. r) (has_text 1 k) table
+    (ap (λ (l : List Row). is_empty (map (λ r. r) l)) (nil_from_length (filter (has_text 1 k) table) none)))
 
 ranks_nobody : (round : Round) (k : Key) (list : List Key) (db : Database)
     → length (filter (has_text 1 k) (db.trees lecturer_tree)) ≡ 0 → IsTransitionIn round (Ranks k list) db db
@@ -47,25 +49,40 @@ ranks_nobody round k list db none holds good then =
     let all = nobody k rows (lecturer_rows_formed db holds.own holds.sound holds.apart.1.0) none in
     let turn : Lecturer → Lecturer = with_ranking k list in
     let still : map show rows ≡ map turn (map show rows) =
-    all_map_on (λ r. equals (row_key r) k ≡ false) show (λ r. turn (show r)) rows all (λ r other. sym (ranking_elsewhere k list (show r) (ap (λ key. equals key k) (key_in round db.trees r) ∙ other))) ∙ map_twice turn show rows in
+    all_map_on (λ r. equals (row_key r) k ≡ false) show (λ r. turn (show r)) rows all
+    (λ r other. sym (ranking_elsewhere k list (show r) (ap (λ key. equals key k) (key_in round db.trees r) ∙ other)))
+    ∙ map_twice turn show rows in
     let roll : put_all lecturer_key (map show rows) [] ≡ map turn (put_all lecturer_key (map show rows) []) =
     ap (λ l. put_all lecturer_key l []) still ∙ put_all_map lecturer_key lecturer_key turn (same_key k list) (map show rows) [] in
     let w = world_in round db.trees in
-    record { holds = holds; world = λ i. record { round = round; phase = w.phase; office = w.office; lecturers = roll i; projects = w.projects; students = w.students } }
+    record {
+      holds = holds;
+      world = λ i. record {
+        round = round;
+        phase = w.phase;
+        office = w.office;
+        lecturers = roll i;
+        projects = w.projects;
+        students = w.students;
+      };
+    }
 
 -- where the lecturer is on the roll of a good world
 turns_there : (round : Round) (k : Key) (list : List Key) (first now : Database)
     → length (filter (has_text 1 k) (first.trees lecturer_tree)) ≢ 0
     → TurnsThere round k list first now → IsTransitionIn round (Ranks k list) first now
-turns_there round k list first now some turns holds good then = turns (there_if k (first.trees lecturer_tree) some) holds good.sound.lecturers_rise
+turns_there round k list first now some turns holds good
+    then = turns (there_if k (first.trees lecturer_tree) some) holds good.sound.lecturers_rise
 
 -- the same, where a query for the lecturer showed a row
 pub turns_shown : (round : Round) (k asked : Key) (list : List Key) (show : Row → Row) (rows : List Row) (first now : Database)
     → asked ≡ k → length rows ≢ 0
-    → ListsBy (1 ∷ []) (has_text 1 asked) show (first.trees lecturer_tree) rows → TurnsThere round k list first now → IsTransitionIn round (Ranks k list) first now
+    → ListsBy (1 ∷ []) (has_text 1 asked) show (first.trees lecturer_tree) rows → TurnsThere round k list first now
+    → IsTransitionIn round (Ranks k list) first now
 turns_shown round k asked list show rows first now same some shown =
     turns_there round k list first now
-    (λ none. some (as_many (1 ∷ []) (has_text 1 asked) show (first.trees lecturer_tree) rows shown ∙ ap (λ t. length (filter (has_text 1 t) (first.trees lecturer_tree))) same ∙ none))
+    (λ none. some (as_many (1 ∷ []) (has_text 1 asked) show (first.trees lecturer_tree) rows shown
+    ∙ ap (λ t. length (filter (has_text 1 t) (first.trees lecturer_tree))) same ∙ none))
 
 -- where it showed none
 pub turns_none : (round : Round) (k asked : Key) (list : List Key) (show : Row → Row) (rows : List Row) (db : Database)
@@ -73,4 +90,5 @@ pub turns_none : (round : Round) (k asked : Key) (list : List Key) (show : Row �
     → ListsBy (1 ∷ []) (has_text 1 asked) show (db.trees lecturer_tree) rows → IsTransitionIn round (Ranks k list) db db
 turns_none round k asked list show rows db same none shown =
     ranks_nobody round k list db
-    (ap (λ t. length (filter (has_text 1 t) (db.trees lecturer_tree))) (sym same) ∙ sym (as_many (1 ∷ []) (has_text 1 asked) show (db.trees lecturer_tree) rows shown) ∙ none)
+    (ap (λ t. length (filter (has_text 1 t) (db.trees lecturer_tree))) (sym same)
+    ∙ sym (as_many (1 ∷ []) (has_text 1 asked) show (db.trees lecturer_tree) rows shown) ∙ none)

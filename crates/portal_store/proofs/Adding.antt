@@ -15,7 +15,7 @@ use Rattle.portal_store.proofs.Base.{new_lecturer, new_student, InsertsRows, Are
 use Rattle.portal_store.proofs.Base.{student_new, puts_apart, more_put, OnRoll, none_of, place_parents, map-id}
 use Rattle.portal_tables.specs.declared.list_table.Lists.TheVariants as which
 use Rattle.portal_tables.proofs.Writes.{unnumbered}
-use Rattle.portal_store.specs.declared.add_rows.NewRows.TheVariants as come
+use Rattle.portal_store.specs.declared.changing.add_rows.NewRows.TheVariants as come
 use Rattle.portal_store.proofs.Still.{holds_after, world_after}
 use Rattle.portal_store.proofs.FirstRows.{has_ranking, lecturer_of_cells, student_of}
 
@@ -38,7 +38,8 @@ rows_permute table (c ∷ cells) new =
     let row : Row = Int (next_rowid table) ∷ c in
     let split = put_splits row table new.0 in
     let one : IsPermutation (row ∷ table) (put_row row table) =
-    subst₂ IsPermutation (ap (λ l. row ∷ l) (sym split.2)) (sym split.3) (IsPermutation-sym _ _ (IsPermutation-middle split.0 row split.1)) in
+    subst₂ IsPermutation (ap (λ l. row ∷ l) (sym split.2)) (sym split.3)
+    (IsPermutation-sym _ _ (IsPermutation-middle split.0 row split.1)) in
     let front = map unnumbered cells in
     let moved : IsPermutation (unnumbered c ∷ (front ++ map bare table)) (front ++ unnumbered c ∷ map bare table) =
     IsPermutation-sym _ _ (IsPermutation-middle front (unnumbered c) (map bare table)) in
@@ -50,7 +51,8 @@ pub added_of : (tree : ℕ) (cells : List Row) (old new : Database) → InsertsR
     → Added tree cells old new
 added_of tree cells old new put = record {
   schema_is = put.schema_is;
-  rows = subst (λ t. IsPermutation (map unnumbered cells ++ map bare (old.trees tree)) (map bare t)) (sym put.rows) (rows_permute (old.trees tree) cells put.free);
+  rows = subst (λ t. IsPermutation (map unnumbered cells ++ map bare (old.trees tree)) (map bare t)) (sym put.rows)
+      (rows_permute (old.trees tree) cells put.free);
   apart = puts_apart tree cells old new put;
   others = put.others;
   sound = λ h. put.sound (λ _. h);
@@ -83,7 +85,8 @@ decoded : {X : Type 0} (f : Row → X) (tree : ℕ) (cells : List Row) (old new 
     → IsPermutation (map (λ c. f (unnumbered c)) cells ++ map f (old.trees tree)) (map f (new.trees tree))
 decoded f tree cells old new blind a =
     let read = λ (rows : List Row). sym (map_twice f bare rows) ∙ map_alike (λ r. f (bare r)) f rows blind in
-    subst₂ IsPermutation (map-append f (map unnumbered cells) (map bare (old.trees tree)) ∙ ap₂ (λ a b. a ++ b) (sym (map_twice f unnumbered cells)) (read (old.trees tree))) (read (new.trees tree))
+    subst₂ IsPermutation (map-append f (map unnumbered cells) (map bare (old.trees tree))
+    ∙ ap₂ (λ a b. a ++ b) (sym (map_twice f unnumbered cells)) (read (old.trees tree))) (read (new.trees tree))
     (IsPermutation-map f (map unnumbered cells ++ map bare (old.trees tree)) (map bare (new.trees tree)) a.rows)
 
 -- what holds of the rows that were there and of the new ones holds of all
@@ -92,7 +95,8 @@ all_added : (P : Row → Type 0) (tree : ℕ) (cells : List Row) (old new : Data
     → AllByRecursion (λ c. P (unnumbered c)) cells → AllByRecursion P (old.trees tree) → AllByRecursion P (new.trees tree)
 all_added P tree cells old new to back a fresh was =
     let first : AllByRecursion P (map unnumbered cells ++ map bare (old.trees tree)) =
-    all_append P _ _ (all_map P unnumbered cells fresh) (all_map P bare (old.trees tree) (all_weaker P (λ r. P (bare r)) to (old.trees tree) was)) in
+    all_append P _ _ (all_map P unnumbered cells fresh)
+    (all_map P bare (old.trees tree) (all_weaker P (λ r. P (bare r)) to (old.trees tree) was)) in
     all_weaker (λ r. P (bare r)) P back (new.trees tree) (all_unmap P bare (new.trees tree) (all_permuted P _ _ a.rows first))
 
 -- keys that rise together are new
@@ -113,42 +117,53 @@ module _ {X : Type 0} (key : X → Key) where
       → AllByRecursion (λ x. has (map key olds) (key x) ≡ false) news
   are_fresh news olds up =
       fresh_from news olds (distinct_permuted key (put_all key news (put_all key olds [])) (news ++ olds)
-      (IsPermutation-sym _ _ (IsPermutation-trans _ _ _ (IsPermutation-append_right news _ _ (permutes key olds)) (permutes_more key news (put_all key olds [])))) (rise_distinct _ up))
+      (IsPermutation-sym _ _ (IsPermutation-trans _ _ _ (IsPermutation-append_right news _ _ (permutes key olds))
+      (permutes_more key news (put_all key olds [])))) (rise_distinct _ up))
 
 -- what holds of the keys of the rows that were there and of the new ones holds of all
 keyed_added : (P : Key → Type 0) (tree : ℕ) (cells : List Row) (old new : Database) → Added tree cells old new
     → AllByRecursion (λ c. P (row_key (unnumbered c))) cells → AllByRecursion (λ r. P (row_key r)) (old.trees tree)
     → AllByRecursion (λ r. P (row_key r)) (new.trees tree)
-keyed_added P tree cells old new = all_added (λ r. P (row_key r)) tree cells old new (λ r h. subst P (sym (key_bare r)) h) (λ r h. subst P (key_bare r) h)
+keyed_added P tree cells old new = all_added (λ r. P (row_key r)) tree cells old new (λ r h. subst P (sym (key_bare r)) h)
+    (λ r h. subst P (key_bare r) h)
 
 -- the roll has the new rows, by a reading that does not look at their numbers
-roll_added : {X Y : Type 0} (key : Y → Key) (cells : X → Row) (show : Row → Y) (rows : List X) (news : List Y) (tree : ℕ) (old new : Database)
+roll_added : {X Y : Type 0} (key : Y → Key) (cells : X → Row) (show : Row → Y) (rows : List X) (news : List Y) (tree : ℕ)
+    (old new : Database)
     → ((r : Row) → show (bare r) ≡ show r) → map (λ x. show (unnumbered (cells x))) rows ≡ news
-    → Added tree (map cells rows) old new → Rise (map key (put_all key news (put_all key (map show (old.trees tree)) []))) → put_all key (map show (new.trees tree)) [] ≡ put_all key news (put_all key (map show (old.trees tree)) [])
+    → Added tree (map cells rows) old new → Rise (map key (put_all key news (put_all key (map show (old.trees tree)) [])))
+    → put_all key (map show (new.trees tree)) [] ≡ put_all key news (put_all key (map show (old.trees tree)) [])
 roll_added key cells show rows news tree old new blind are a =
     more_put key news (map show (old.trees tree)) (map show (new.trees tree))
-    (subst (λ l. IsPermutation (l ++ map show (old.trees tree)) (map show (new.trees tree))) (sym (map_twice (λ c. show (unnumbered c)) cells rows) ∙ are) (decoded show tree (map cells rows) old new blind a))
+    (subst (λ l. IsPermutation (l ++ map show (old.trees tree)) (map show (new.trees tree)))
+    (sym (map_twice (λ c. show (unnumbered c)) cells rows) ∙ are) (decoded show tree (map cells rows) old new blind a))
 
 -- no row of a list is that of an owner who is new
 none_yet : {X Y : Type 0} (Q : Row → Type 0) (key : Y → Key) (of : X → Y) (show : Row → Y) (rows : List X) (roll lists : List Row)
     → map key (map show roll) ≡ map row_key roll → AllByRecursion (λ r. OnRoll roll (row_key r) × Q r) lists
-    → Rise (map key (put_all key (map of rows) (put_all key (map show roll) []))) → AllByRecursion (λ x. of_key (key (of x)) lists ≡ []) rows
+    → Rise (map key (put_all key (map of rows) (put_all key (map show roll) [])))
+    → AllByRecursion (λ x. of_key (key (of x)) lists ≡ []) rows
 none_yet Q key of show rows roll lists keys owned up =
-    all_weaker (λ x. has (map row_key roll) (key (of x)) ≡ false) (λ x. of_key (key (of x)) lists ≡ []) (λ x off. none_of Q roll (key (of x)) lists owned off) rows
-    (all_unmap (λ y. has (map row_key roll) (key y) ≡ false) of rows (subst (λ ks. AllByRecursion (λ y. has ks (key y) ≡ false) (map of rows)) keys (are_fresh key (map of rows) (map show roll) up)))
+    all_weaker (λ x. has (map row_key roll) (key (of x)) ≡ false) (λ x. of_key (key (of x)) lists ≡ [])
+    (λ x off. none_of Q roll (key (of x)) lists owned off) rows
+    (all_unmap (λ y. has (map row_key roll) (key y) ≡ false) of rows
+    (subst (λ ks. AllByRecursion (λ y. has ks (key y) ≡ false) (map of rows)) keys (are_fresh key (map of rows) (map show roll) up)))
 
 whole_none : {X : Type 0} (key : X → Key) (lists : List Row) (xs : List X)
     → AllByRecursion (λ x. of_key (key x) lists ≡ []) xs → AllByRecursion (λ x. IsWhole (of_key (key x) lists)) xs
-whole_none key lists xs = all_weaker (λ x. of_key (key x) lists ≡ []) (λ x. IsWhole (of_key (key x) lists)) (λ x none. subst IsWhole (sym none) tt) xs
+whole_none key lists xs = all_weaker (λ x. of_key (key x) lists ≡ []) (λ x. IsWhole (of_key (key x) lists))
+    (λ x none. subst IsWhole (sym none) tt) xs
 
-module _ (rows : List LecturerRow) (old new : Database) (was : IsConsistentIn First old) (better : Good (changed (world_in First old.trees) (Lecturers rows))) (a : Added lecturer_tree (map lecturer_new rows) old new) where
+module _ (rows : List LecturerRow) (old new : Database) (was : IsConsistentIn First old)
+    (better : Good (changed (world_in First old.trees) (Lecturers rows))) (a : Added lecturer_tree (map lecturer_new rows) old new) where
   abbrev lists : List Row
   lists = old.trees ranking_tree
 
   unranked_yet : AllByRecursion (λ r. of_key r.key lists ≡ []) rows
   unfolding world_in
-  unranked_yet = none_yet _ lecturer_key new_lecturer (lecturer_of_cells lists) rows (old.trees lecturer_tree) lists (sym (map_twice lecturer_key (lecturer_of_cells lists) (old.trees lecturer_tree)))
-      (place_parents old which.Rankings was.own was.sound was.apart.1.1.1.1.1.0) better.sound.lecturers_rise
+  unranked_yet = none_yet _ lecturer_key new_lecturer (lecturer_of_cells lists) rows (old.trees lecturer_tree) lists
+      (sym (map_twice lecturer_key (lecturer_of_cells lists) (old.trees lecturer_tree)))
+      (place_parents old (which.Rankings First) was.own was.sound was.apart.1.1.1.1.1.0) better.sound.lecturers_rise
 
   lecturers_turned : HasChangedIn First (Lecturers rows) old new
   unfolding world_in
@@ -156,13 +171,20 @@ module _ (rows : List LecturerRow) (old new : Database) (was : IsConsistentIn Fi
     holds = holds_after lecturer_tree old new refl was a.others a.schema_is (a.sound was.sound) (a.apart was.apart.1.0) was.office (record {
       choices = was.whole.choices;
       rankings = keyed_added (λ k. IsWhole (of_key k lists)) lecturer_tree (map lecturer_new rows) old new a
-          (all_map (λ c. IsWhole (of_key (row_key (unnumbered c)) lists)) lecturer_new rows (whole_none (λ (r : LecturerRow). r.key) lists rows unranked_yet)) was.whole.rankings;
+          (all_map (λ c. IsWhole (of_key (row_key (unnumbered c)) lists)) lecturer_new rows
+          (whole_none (λ (r : LecturerRow). r.key) lists rows unranked_yet)) was.whole.rankings;
       ranked = all_added (λ r. has_ranking r ≡ false → of_key (row_key r) lists ≡ []) lecturer_tree (map lecturer_new rows) old new
-          (λ r h e. ap (λ k. of_key k lists) (key_bare r) ∙ h (sym (ranked_bare r) ∙ e)) (λ r h e. sym (ap (λ k. of_key k lists) (key_bare r)) ∙ h (ranked_bare r ∙ e)) a
-          (all_map (λ c. has_ranking (unnumbered c) ≡ false → of_key (row_key (unnumbered c)) lists ≡ []) lecturer_new rows (all_weaker (λ (r : LecturerRow). of_key r.key lists ≡ []) (λ r. has_ranking (unnumbered (lecturer_new r)) ≡ false → of_key r.key lists ≡ []) (λ r none e. none) rows unranked_yet)) was.whole.ranked;
+          (λ r h e. ap (λ k. of_key k lists) (key_bare r) ∙ h (sym (ranked_bare r) ∙ e))
+          (λ r h e. sym (ap (λ k. of_key k lists) (key_bare r)) ∙ h (ranked_bare r ∙ e)) a
+          (all_map (λ c. has_ranking (unnumbered c) ≡ false → of_key (row_key (unnumbered c)) lists ≡ []) lecturer_new rows
+          (all_weaker (λ (r : LecturerRow). of_key r.key lists ≡ [])
+          (λ r. has_ranking (unnumbered (lecturer_new r)) ≡ false → of_key r.key lists ≡ [])
+          (λ r none e. none) rows unranked_yet)) was.whole.ranked;
     });
     world = world_after First lecturer_tree old new a.others
-        ∙ ap (λ l. record (world_in First old.trees) { lecturers = l }) (roll_added lecturer_key lecturer_new (lecturer_of_cells lists) rows (map new_lecturer rows) lecturer_tree old new (lecturer_bare lists) refl a better.sound.lecturers_rise);
+        ∙ ap (λ l. record (world_in First old.trees) { lecturers = l })
+        (roll_added lecturer_key lecturer_new (lecturer_of_cells lists) rows (map new_lecturer rows) lecturer_tree old new
+        (lecturer_bare lists) refl a better.sound.lecturers_rise);
   }
 
 pub lecturers_turn : (rows : List LecturerRow) (old new : Database) → Adds lecturer_tree (map lecturer_new rows) old new
@@ -175,19 +197,24 @@ unfolding world_in
 projects_turn rows old new adds was good better =
     let a = added_of _ _ old new (adds was.current) in
     record {
-      holds = holds_after project_tree old new refl was a.others a.schema_is (a.sound was.sound) (a.apart was.apart.1.1.0) was.office (record { choices = was.whole.choices; rankings = was.whole.rankings; ranked = was.whole.ranked });
+      holds = holds_after project_tree old new refl was a.others a.schema_is (a.sound was.sound) (a.apart was.apart.1.1.0) was.office
+          (record { choices = was.whole.choices; rankings = was.whole.rankings; ranked = was.whole.ranked });
       world = world_after First project_tree old new a.others
-          ∙ ap (λ l. record (world_in First old.trees) { projects = l }) (roll_added project_key project_new project_row rows rows project_tree old new project_bare (map-id rows) a better.sound.projects_rise);
+          ∙ ap (λ l. record (world_in First old.trees) { projects = l })
+          (roll_added project_key project_new project_row rows rows project_tree old new project_bare
+          (map-id rows) a better.sound.projects_rise);
     }
 
-module _ (rows : List StudentRow) (old new : Database) (was : IsConsistentIn First old) (better : Good (changed (world_in First old.trees) (Students rows))) (a : Added student_tree (map student_new rows) old new) where
+module _ (rows : List StudentRow) (old new : Database) (was : IsConsistentIn First old)
+    (better : Good (changed (world_in First old.trees) (Students rows))) (a : Added student_tree (map student_new rows) old new) where
   abbrev chosen : List Row
   chosen = old.trees choice_tree
 
   unlisted_yet : AllByRecursion (λ r. of_key r.key chosen ≡ []) rows
   unfolding world_in
-  unlisted_yet = none_yet _ student_key new_student (student_of chosen) rows (old.trees student_tree) chosen (sym (map_twice student_key (student_of chosen) (old.trees student_tree)))
-      (place_parents old which.Choices was.own was.sound was.apart.1.1.1.1.0) better.sound.students_rise
+  unlisted_yet = none_yet _ student_key new_student (student_of chosen) rows (old.trees student_tree) chosen
+      (sym (map_twice student_key (student_of chosen) (old.trees student_tree)))
+      (place_parents old (which.Choices First) was.own was.sound was.apart.1.1.1.1.0) better.sound.students_rise
 
   students_turned : HasChangedIn First (Students rows) old new
   unfolding world_in
@@ -196,14 +223,18 @@ module _ (rows : List StudentRow) (old new : Database) (was : IsConsistentIn Fir
       all_map_on (λ r. of_key r.key chosen ≡ []) (λ r. student_of chosen (unnumbered (student_new r))) new_student rows unlisted_yet
       (λ r h. ap (λ l. record { row = r; choice = list_in_order l; placed = None; earlier_choice = []; earlier_placement = None }) h) in
       record {
-        holds = holds_after student_tree old new refl was a.others a.schema_is (a.sound was.sound) (a.apart was.apart.1.1.1.0) was.office (record {
-          choices = keyed_added (λ k. IsWhole (of_key k chosen)) student_tree (map student_new rows) old new a
-              (all_map (λ c. IsWhole (of_key (row_key (unnumbered c)) chosen)) student_new rows (whole_none (λ (r : StudentRow). r.key) chosen rows unlisted_yet)) was.whole.choices;
-          rankings = was.whole.rankings;
-          ranked = was.whole.ranked;
-        });
+        holds = holds_after student_tree old new refl was a.others a.schema_is (a.sound was.sound) (a.apart was.apart.1.1.1.0) was.office
+            (record {
+              choices = keyed_added (λ k. IsWhole (of_key k chosen)) student_tree (map student_new rows) old new a
+                  (all_map (λ c. IsWhole (of_key (row_key (unnumbered c)) chosen)) student_new rows
+                  (whole_none (λ (r : StudentRow). r.key) chosen rows unlisted_yet)) was.whole.choices;
+              rankings = was.whole.rankings;
+              ranked = was.whole.ranked;
+            });
         world = world_after First student_tree old new a.others
-            ∙ ap (λ l. record (world_in First old.trees) { students = l }) (roll_added student_key student_new (student_of chosen) rows (map new_student rows) student_tree old new (student_bare chosen) news a better.sound.students_rise);
+            ∙ ap (λ l. record (world_in First old.trees) { students = l })
+            (roll_added student_key student_new (student_of chosen) rows (map new_student rows) student_tree old new
+            (student_bare chosen) news a better.sound.students_rise);
       }
 
 pub students_turn : (rows : List StudentRow) (old new : Database) → Adds student_tree (map student_new rows) old new
@@ -214,5 +245,4 @@ students_turn rows old new adds was good better = students_turned rows old new w
 pub no_rows : (rows : NewRows) (db : Database) → IsTransitionIn Second (with_rows_added rows) db db
 unfolding world_in
 no_rows (come.Lecturers rows) db holds good then = record { holds = holds; world = refl }
-no_rows (come.Projects rows) db holds good then = record { holds = holds; world = refl }
-no_rows (come.Students rows) db holds good then = record { holds = holds; world = refl }
+no_rows rows db holds good then = record { holds = holds; world = refl }

@@ -31,6 +31,7 @@ pub use Rattle.portal_rules.specs.Meaning.{change_model}
 pub use Rattle.portal_rules.specs.View.{OfficeCaller, caller_among, catalogue, lecturer_with, sight_of, student_with}
 pub use Rattle.portal_rules.specs.View.{office_sees, student_sees, name_in, listing_with, listings, persons}
 pub use Rattle.portal_rules.specs.View.{lecturer_sees, view}
+pub use Rattle.portal_rules.specs.Calls.{OfficeSees}
 pub use Rattle.portal_rules.specs.Words.{is_code, Key, Rise, equals, has, is_empty, put_all}
 pub use Rattle.portal_rules.specs.World.{Change, Choices, Fill, Lecturers, Placements, Projects, Ranks, SecondRound}
 pub use Rattle.portal_rules.specs.World.{Students, To, changed, placement_in, with_place, with_ranking, Lecturer}
@@ -52,21 +53,21 @@ pub use Rattle.portal_rules.specs.declared.rows.StudentRow.{StudentRow}
 pub use Rattle.portal_rules.specs.declared.view.View.TheVariants.{Lecturer as LecturerSight, Student as StudentSight}
 pub use Rattle.portal_rules.specs.declared.view.View.TheVariants.{Office as OfficeSight}
 pub use Rattle.portal_rules.specs.Alone.{alone, alone_student, alone_lecturer}
-pub use Rattle.portal_rules.specs.inner.ViewCache.{IsCacheOf}
+pub use Rattle.portal_store.specs.inner.ViewCache.{IsCacheOf}
 pub use Rattle.portal_list.proofs.Replaced.{ranking_elsewhere, ranking_here}
-pub use Rattle.portal_list.specs.Rows.{HasEntries, RowsOfWorld, world_rows, choices_in, rankings_with, AllEntries}
+pub use Rattle.portal_list.specs.Rows.{HasEntries, RowsOfWorld, world_rows, choices_in, rankings_with}
 pub use Rattle.portal_list.specs.Rows.{fill_missing}
 pub use Rattle.portal_rules.specs.inner.Offers.{offered}
 pub use Rattle.portal_list.specs.inner.Shown.{is_wanted, is_waiting}
-pub use Rattle.portal_store.specs.Crash.{Refutes, Bars, Reopens, OpensAgain, OpensFresh, UpgradesAgain, HasVersion}
-pub use Rattle.portal_store.specs.Crash.{RefusalSays, IsLeft, IsUpgradedFrom, LeavesUpgraded}
+pub use Rattle.portal_store.specs.Crash.{IsTrueOfOpening, IsTrueOfUpgrading, Reopens, OpensAgain, OpensFresh, UpgradesAgain, HasVersion}
+pub use Rattle.portal_store.specs.Crash.{IsTrueOfTables, IsLeft, IsUpgradedFrom, LeavesUpgraded}
 pub use Rattle.portal_store.specs.Kept.{HasChanged, HasGoodFirst, HasGoodWorld, HasGoodWorldIn, HasSecond, IsCleanStore}
-pub use Rattle.portal_store.specs.Kept.{IsConsistent, IsConsistentIn, IsTransition, IsUnopened, Seen, Whole, kept_world}
-pub use Rattle.portal_store.specs.Kept.{AreWhole, HasDisk, DiskInMemory, Lasts, LastsInMemory, IsOpened, IsBrokenStore}
-pub use Rattle.portal_store.specs.Kept.{LeavesWorld, UnbrokenInMemory, AreConsistent, LeavesConsistent, kept_state}
+pub use Rattle.portal_store.specs.Kept.{IsConsistent, IsConsistentIn, IsTransition, IsUnopened, StoreState, Whole, kept_world}
+pub use Rattle.portal_store.specs.Kept.{AreWhole, DiskInMemory, Lasts, LastsInMemory, IsOpened, IsBrokenStore}
+pub use Rattle.portal_store.specs.Kept.{UnbrokenInMemory, AreConsistent, LeavesConsistent, kept_state}
 pub use Rattle.portal_store.specs.World.{is_ranked, lecturer_stored, phase_in, round_in, student_stored, first_world}
 pub use Rattle.portal_store.specs.World.{ranking_in, choice_in, placement_in_round, second_phase, office_row}
-pub use Rattle.portal_store.specs.declared.add_rows.NewRows.{NewRows}
+pub use Rattle.portal_store.specs.declared.changing.add_rows.NewRows.{NewRows}
 pub use Rattle.portal_store.specs.declared.store.OpenFault.{OpenFault}
 pub use Rattle.portal_store.specs.inner.Adding.{with_rows_added}
 pub use Rattle.portal_store.specs.inner.Asked.{Admits, AdmitsAs, SaysNot, IsOfRows, NumbersDiffer, SaysNothing}
@@ -79,9 +80,9 @@ pub use Rattle.portal_store.specs.inner.Opening.{OpensSecondRound, is_opening}
 pub use Rattle.portal_store.specs.inner.Placing.{ShowsRoll, TurnsLeft, TurnsShown, assigned_of, pair_left}
 pub use Rattle.portal_store.specs.inner.Putting.{TurnsAll, TurnsThere, with_rankings}
 pub use Rattle.portal_store.specs.inner.Queried.{lecturer_from, student_from}
-pub use Rattle.portal_store.specs.inner.Reading.{IsNow, IsSameUpToFault, KeepsEntries, IsSoundIfOpen, RemembersIn}
+pub use Rattle.portal_store.specs.inner.Reading.{IsNow, IsSameUpToFault, IsSoundIfOpen, RemembersIn}
 pub use Rattle.portal_tables.proofs.Asking.{commits_asked, commits_none}
-pub use Rattle.portal_tables.proofs.InTurn.{both, clean_before, if_answered, looks_by, looks_never, looks_then}
+pub use Rattle.portal_tables.proofs.InTurn.{clean_before, looks_by, looks_never, looks_then}
 pub use Rattle.portal_tables.proofs.InTurn.{settled_still, stays_left, stays_then, reads_as, reads_both, reads_handed}
 pub use Rattle.portal_tables.proofs.InTurn.{reads_more, reads_of, reads_open, reads_short, reads_then, reads_then_of}
 pub use Rattle.portal_tables.proofs.InTurn.{reads_wide}
@@ -107,7 +108,8 @@ pub use Rattle.portal_tables.specs.Tables.{tree_of, assigned2_tree, choice2_tree
 pub use Rattle.portal_tables.specs.Tables.{first_version, lecturer_tree, own_trees, portal_tree, project_tree}
 pub use Rattle.portal_tables.specs.Tables.{ranked2_tree, ranking2_tree, ranking_tree, second_tree, student_tree}
 pub use Rattle.portal_tables.specs.Tables.{version, HasFirstSchema, IsCurrentSchema, IsFirstSchema, no_schema}
-pub use Rattle.portal_tables.specs.Tables.{first_schema, SameTable, later_trees, choice_table, ranking_table}
+pub use Rattle.portal_tables.specs.Tables.{first_schema, SameTable, later_trees}
+pub use Rattle.portal_tables.specs.declared.list_table.Lists.TheVariants.{Choices as choice_table, Rankings as ranking_table}
 pub use Rattle.portal_tables.specs.declared.fault.TableFault.{TableFault}
 pub use Rattle.portal_tables.specs.declared.names.Names.TheVariants.{OfSecond}
 pub use Rattle.portal_tables.specs.declared.office.Office.{Office}
@@ -123,7 +125,7 @@ pub use Rattle.portal_tables.specs.Reads.{OnlyLooks}
 pub use Rattle.portal_tables.specs.Reads.{Reads, HasRound}
 pub use Rattle.portal_tables.specs.inner.Rolls.{RollsRise, by_key, lecturer_columns, lecturers_shown, projects_shown}
 pub use Rattle.portal_tables.specs.inner.Rolls.{roll_columns, students_shown}
-pub use Rattle.portal_tables.specs.inner.RowChanges.{Assigns, MovesSecond, MovesTo, pair_new, assigned_by}
+pub use Rattle.portal_tables.specs.inner.RowChanges.{Assigns, MovesTo, pair_new, assigned_by}
 pub use Rattle.portal_tables.specs.inner.RowChanges.{with_assigned, student_columns, text_or_null_cell, Adds}
 pub use Rattle.portal_tables.specs.inner.RowChanges.{lecturer_new}
 pub use Rattle.portal_tables.specs.inner.RowChanges.{project_new, student_new, lecturer_cells}

@@ -3,8 +3,8 @@ use Rattle.portal_store.proofs.Base.{◌≡◌, ◌≢◌, ◌↔◌, ◌∙◌,
 use Rattle.portal_store.proofs.Base.{HasCleanDisk, IsUnchanged, IsLive, Survives, Ghosts, Held, state, Key, is_code}
 use Rattle.portal_store.proofs.Base.{Good, HasFirstSchema, IsCurrentSchema, IsFirstSchema, first_version, no_schema}
 use Rattle.portal_store.proofs.Base.{version, Creates, IsFresh, has_names, Commits, IsAfter, LeavesOnly, IsCommitted}
-use Rattle.portal_store.proofs.Base.{OnlyLooks, HasGoodFirst, IsCleanStore, Seen, world_of, OpenFault}
-use Rattle.portal_store.proofs.Base.{HasVersion, IsUpgradedFrom, LeavesUpgraded, RefusalSays, Refutes, IsKept, Admits}
+use Rattle.portal_store.proofs.Base.{OnlyLooks, HasGoodFirst, IsCleanStore, StoreState, world_of, OpenFault}
+use Rattle.portal_store.proofs.Base.{HasVersion, IsUpgradedFrom, LeavesUpgraded, IsTrueOfTables, IsTrueOfOpening, IsKept, Admits}
 use Rattle.portal_store.proofs.Base.{[], survives_weaker, Ok, Second, Reads, GivesOrFails, HasEntries, IsSoundIfOpen}
 use Rattle.portal_store.proofs.Base.{SaysNothing, State}
 use Rattle.portal_list.specs.Rows.{AllEntries}
@@ -12,7 +12,7 @@ use Rattle.portal_tables.proofs.Runs.{survives_same}
 use Rattle.portal_tables.specs.declared.names.Names.TheVariants.{All}
 use Rattle.portal_store.specs.Calls.{CreatesStore, HandsBack, MakesStore, OpensStore, RefusesToCreate, RefusesToUpgrade}
 use Rattle.portal_store.specs.Calls.{UpgradesStore}
-use Rattle.portal_store.specs.Crash.{AfterCreating, AfterUpgrading, Explains, Suits, as_upgrading, later_queries}
+use Rattle.portal_store.specs.Crash.{AfterCreating, AfterUpgrading, IsTrueOfQueries, Suits, as_upgrading, later_queries}
 use Rattle.portal_store.proofs.Explained.{suits_for}
 use Rattle.portal_store.specs.declared.store.CreateFault.{CreateFault}
 use Rattle.portal_store.specs.declared.store.CreateFault.TheVariants as creating
@@ -20,7 +20,7 @@ use Rattle.portal_store.specs.declared.store.OpenFault.TheVariants as opening
 use Rattle.portal_store.specs.declared.store.UpgradeFault.{UpgradeFault}
 use Rattle.portal_store.specs.declared.store.UpgradeFault.TheVariants as upgrading
 use Rattle.portal_store.specs.inner.Upgrading.{UpgradesWithEntries}
-use Rattle.portal_store.proofs.Asked.{opened_kept}
+use Rattle.portal_store.proofs.Asked.{by_nothing, opened_kept}
 use Rattle.portal_store.proofs.First.{first_is, first_is_good, first_kept}
 use Rattle.portal_store.proofs.Keeps.{not_both, rests_by}
 use Rattle.portal_store.proofs.Rounds.{world_told}
@@ -52,7 +52,7 @@ module _
     (old new : Held S)
     (shut : IsTrue (state g new).is_open → HasCleanDisk (state g new))
     (settled : (db : Trees) → IsTrue (state g new).is_open → (state g new).may_leave db → db ≡ (state g new).committed.trees) where
-  abbrev made : Seen S
+  abbrev made : StoreState S
   made = record { conn = new; own = own; faults = 0 }
 
   makes_by : (Own : Type 0) (After : Trees → Type 0) → (IsTrue own ↔ Own) → IsKept g new own
@@ -101,7 +101,7 @@ module _
       (looks : OnlyLooks (state g old) (state g new))
       (entries : AllEntries)
       (reads : IsTrue own → Reads Second g (IsSoundIfOpen g old)
-      (GivesOrFails (λ db e. Admits db.trees × HasEntries e (world_of db.trees)) (λ db (fault : OpenFault). Refutes fault db.trees))
+      (GivesOrFails (λ db e. Admits db.trees × HasEntries e (world_of db.trees)) (λ db (fault : OpenFault). IsTrueOfOpening fault db.trees))
       (Ok entries) old new) where
     found : IsTrue own → HasCleanDisk (state g new)
         → IsUnchanged (state g old) (state g new) × Admits (state g old).now.trees
@@ -154,8 +154,7 @@ module _
 after_made : {fault : CreateFault} (office : Key) (old : State) (db : Trees) → fault ≢ creating.Exists
     → IsAfter (Creates office) old db → AfterCreating fault office old db
 after_made {fault = creating.Exists} office old db other after = absurd (other refl)
-after_made {fault = creating.Store} office old db other after = after
-after_made {fault = creating.Memory} office old db other after = after
+after_made office old db other after = after
 
 -- no table has one of the names, so this is not told
 pub not_created : {S : Type 0} (g : Ghosts S) (office : Key) (fault : CreateFault) (old new : Held S)
@@ -175,10 +174,7 @@ not_created g office fault old new back free other = record {
 
 pub never_exists : (found : OpenFault) → as_upgrading found ≢ upgrading.Exists
 never_exists opening.NotPortal e = absurd (cc)
-never_exists opening.OtherVersion e = absurd (cc)
-never_exists opening.Damaged e = absurd (cc)
-never_exists opening.Store e = absurd (cc)
-never_exists opening.Memory e = absurd (cc)
+never_exists found e = absurd (cc)
 
 -- as a fault of upgrading it is still told from the others
 opening_of : UpgradeFault → OpenFault
@@ -191,33 +187,23 @@ opening_of _ = opening.Store
 as_back : (found : OpenFault) → opening_of (as_upgrading found) ≡ found
 unfolding opening_of
 as_back opening.NotPortal = refl
-as_back opening.OtherVersion = refl
-as_back opening.Damaged = refl
-as_back opening.Store = refl
-as_back opening.Memory = refl
+as_back found = refl
 
 as_once : (a b : OpenFault) → as_upgrading a ≡ as_upgrading b → a ≡ b
 as_once a b same = sym (as_back a) ∙ ap opening_of same ∙ as_back b
 
 -- a fault that may come so late
-late : (found : OpenFault) (old : State) (db : Trees) → SaysNothing found → LeavesUpgraded old db
-    → AfterUpgrading (as_upgrading found) old db
-late opening.NotPortal old db nothing left = absurd nothing
-late opening.OtherVersion old db nothing left = absurd nothing
-late opening.Damaged old db nothing left = absurd (nothing tt)
-late opening.Store old db nothing left = left
-late opening.Memory old db nothing left = left
-
 pub after_late : (fault : UpgradeFault) (found : OpenFault) (old : State) (db : Trees) → fault ≡ as_upgrading found
     → SaysNothing found → LeavesUpgraded old db → AfterUpgrading fault old db
-after_late fault found old db is nothing left = subst (λ f. AfterUpgrading f old db) (sym is) (late found old db nothing left)
+after_late fault found old db is nothing left =
+    subst (λ f. AfterUpgrading f old db) (sym is) (by_nothing (λ f. AfterUpgrading (as_upgrading f) old db) left left found nothing)
 
 pub not_upgraded : {S : Type 0} (g : Ghosts S) (fault : UpgradeFault) (found : OpenFault) (old new : Held S)
     → fault ≡ as_upgrading found
     → HandsBack g (AfterUpgrading fault (state g old)) old new
-    → (HasCleanDisk (state g new) → Explains found (IsFirstSchema old.schema) first_version [] (state g old))
+    → (HasCleanDisk (state g new) → IsTrueOfQueries found (IsFirstSchema old.schema) first_version [] (state g old))
     → (IsFirstSchema old.schema → HasCleanDisk (state g new)
-    → RefusalSays found first_version (HasGoodFirst first_version (state g old).now.trees) (state g old).now.trees)
+    → IsTrueOfTables found first_version (HasGoodFirst first_version (state g old).now.trees) (state g old).now.trees)
     → (found ≡ opening.Damaged → HasFirstSchema old.schema → HasCleanDisk (state g new)
     → HasGoodFirst first_version (state g old).now.trees → ⊥)
     → (IsFirstSchema old.schema → Survives (state g old) (state g new) (IsUpgradedFrom (state g old).now.trees))
@@ -228,7 +214,8 @@ not_upgraded g fault found old new is back so said harm left =
       back = back;
       judged = λ clean. record {
         explained = λ other same.
-            subst (λ f. Explains f (IsFirstSchema old.schema) first_version [] (state g old)) (as_once found other (sym is ∙ same)) (so clean);
+            subst (λ f. IsTrueOfQueries f (IsFirstSchema old.schema) first_version [] (state g old)) (as_once found other (sym is ∙ same))
+            (so clean);
         barred = λ first. (found, is, said first clean);
         damaged = λ e first. harm (as_once found opening.Damaged (sym is ∙ e)) first clean;
         exists = λ e. absurd (never e);

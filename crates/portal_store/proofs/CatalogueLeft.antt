@@ -17,7 +17,8 @@ no_name : (ls : List Lecturer) (k : Key) → has (map lecturer_key ls) k ≡ fal
 no_name [] k none = refl
 no_name (l ∷ ls) k none =
     let p = or_parts _ _ none in
-    ap (λ b. option_map (λ (x : Lecturer). x.row.name) (cond b (Some l) (find (λ (x : Lecturer). equals x.row.key k) ls))) (is_sym l.row.key k ∙ p.0) ∙ no_name ls k p.1
+    ap (λ b. option_map (λ (x : Lecturer). x.row.name) (cond b (Some l) (find (λ (x : Lecturer). equals x.row.key k) ls)))
+    (is_sym l.row.key k ∙ p.0) ∙ no_name ls k p.1
 
 -- what gives nothing may pass
 may_pass : {X Y : Type 0} (g : X → Option Y) (a b : X → Bool) → ((x : X) → b x ≡ false → g x ≡ None) → (xs : List X)
@@ -51,22 +52,26 @@ module _ (ls : List Lecturer) (ps : List ProjectRow) (ss : List Student) where
   rows_are : filter_map (lecturer_left ps pairs) (map row_of ls) ≡ map row_of left
   rows_are =
       each_left (lecturer_left ps pairs) (λ r. nat_lt 0 r.capacity) lowered (lecturer_left_is ss ps) (map row_of ls)
-      ∙ ap (filter (λ (r : LecturerRow). nat_lt 0 r.capacity)) (map-map lowered row_of ls ∙ sym (map-map row_of (lowered_lecturer ps ss) ls))
+      ∙ ap (filter (λ (r : LecturerRow). nat_lt 0 r.capacity))
+      (map-map lowered row_of ls ∙ sym (map-map row_of (lowered_lecturer ps ss) ls))
       ∙ filter-map (λ (r : LecturerRow). nat_lt 0 r.capacity) row_of (map (lowered_lecturer ps ss) ls)
 
   -- one whose lecturer has no room is in no catalogue
-  told : offered (filter_map (lecturer_left ps pairs) (map row_of ls)) (filter_map (project_left pairs) ps) ≡ listings left (projects_left ls ps ss)
+  told : offered (filter_map (lecturer_left ps pairs) (map row_of ls)) (filter_map (project_left pairs) ps)
+      ≡ listings left (projects_left ls ps ss)
   told =
       let has_room : ProjectRow → Bool = λ p. nat_lt 0 p.capacity in
       let taught : ProjectRow → Bool = λ p. has (map lecturer_key left) p.lecturer in
       ap₂ offered rows_are (each_left (project_left pairs) has_room (lowered_project ss) (project_left_is ss) ps)
       ∙ offered_rows left (filter has_room (map (lowered_project ss) ps))
-      ∙ sym (may_pass (λ p. option_map (listing_with p) (name_in left p.lecturer)) has_room taught (λ p none. ap (option_map (listing_with p)) (no_name left p.lecturer none)) (map (lowered_project ss) ps))
+      ∙ sym (may_pass (λ p. option_map (listing_with p) (name_in left p.lecturer)) has_room taught
+      (λ p none. ap (option_map (listing_with p)) (no_name left p.lecturer none)) (map (lowered_project ss) ps))
 
 pairs_told : (db : Trees) → first_pairs db ≡ pairs_with (λ s. s.earlier_placement) (world_in Second db).students
 unfolding world_in
 pairs_told db =
-    found_alike first_pair (λ (s : Student). option_map (λ p. (s.row.key, p)) s.earlier_placement) (columns (1 ∷ 4 ∷ [])) (student_stored Second db) (by_key (db student_tree)) _ _ refl (students_by_key Second db) (λ r. refl)
+    found_alike first_pair (λ (s : Student). option_map (λ p. (s.row.key, p)) s.earlier_placement) (columns (1 ∷ 4 ∷ []))
+    (student_stored Second db) (by_key (db student_tree)) _ _ refl (students_by_key Second db) (λ r. refl)
 
 left_told : (db : Trees) → catalogue_shown Second db ≡ catalogue (world_in Second db)
 unfolding world_in
@@ -76,11 +81,13 @@ left_told db =
     let ls = ap (λ (r : AllRows). r.lecturers) rows in
     let ps = ap (λ (r : AllRows). r.projects) rows in
     let pairs = pairs_told db in
-    (λ i. offered (filter_map (lecturer_left (ps i) (pairs i)) (ls i)) (filter_map (project_left (pairs i)) (ps i))) ∙ told w.lecturers w.projects w.students
+    (λ i. offered (filter_map (lecturer_left (ps i) (pairs i)) (ls i)) (filter_map (project_left (pairs i)) (ps i)))
+    ∙ told w.lecturers w.projects w.students
 
 pub catalogue_told : (round : Round) (db : Trees) → catalogue_shown round db ≡ catalogue (world_in round db)
 catalogue_told First db =
     let rows = round_rows First db in
-    ap₂ offered (ap (λ (r : AllRows). r.lecturers) rows) (ap (λ (r : AllRows). r.projects) rows) ∙ offered_rows (world_in First db).lecturers (world_in First db).projects
+    ap₂ offered (ap (λ (r : AllRows). r.lecturers) rows) (ap (λ (r : AllRows). r.projects) rows)
+    ∙ offered_rows (world_in First db).lecturers (world_in First db).projects
     ∙ ap (λ (u : World). listings u.lecturers u.projects) (sym (first_plays (world_in First db) (world_first db)))
 catalogue_told Second db = left_told db

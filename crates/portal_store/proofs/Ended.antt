@@ -7,16 +7,21 @@ use Rattle.portal_store.proofs.Base.{survives_then, survives_weaker, sym, Leaves
 use Rattle.portal_store.proofs.Base.{LeavesMade, IsSameUpToFault, IfOk}
 
 -- the tables are read, and then the change is made, or not
-pub ends_then : {round : Round} {Right : Database → Type 0} {U F V E : Type 0} {Told : Database → Result U F → Type 0} {C D : Database → Database → Type 0} {u : U} {r : Result V E} {old mid new : State}
+pub ends_then : {round : Round} {Right : Database → Type 0} {U F V E : Type 0} {Told : Database → Result U F → Type 0} {C D : Database
+    → Database → Type 0} {u : U} {r : Result V E} {old mid new : State}
     → Reading round Anyhow Right Told (Ok u) old mid → CommitsChange C r mid new
-    → (IsCurrentSchema old.now.schema → HasCleanDisk mid → (after : Database) → C old.now after → D old.now after) → CommitsChange D r old new
+    → (IsCurrentSchema old.now.schema → HasCleanDisk mid → (after : Database) → C old.now after → D old.now after)
+    → CommitsChange D r old new
 ends_then {C = C} {D = D} {r = r} {old} {mid} {new} reads then more =
     let before : HasCleanDisk new → HasCleanDisk mid = clean_before mid new _ then.crash in
     let same : HasCleanDisk mid → IsUnchanged old mid = λ clean. reads.same clean tt in
-    let mine : IsUnchanged old mid → IsCurrentSchema old.now.schema → IsCurrentSchema mid.now.schema = λ m own. subst (λ (d : Database). IsCurrentSchema d.schema) (sym m.0.now_is) own in
+    let mine : IsUnchanged old mid → IsCurrentSchema old.now.schema
+    → IsCurrentSchema mid.now.schema = λ m own. subst (λ (d : Database). IsCurrentSchema d.schema) (sym m.0.now_is) own in
     record {
-      ok = λ own clean. let m = same (before clean) in on_ok_weaker r (commits_asked old mid new C D (more own) (before clean) m) (then.ok (mine m own) clean);
-      err = λ own clean on. let m = same (before clean) in on_err_weaker r (λ s. (m.0.was_open, s.1 ∙ m.0.now_is, s.2 ∙ m.0.committed_is)) (then.err (mine m own) clean on);
+      ok = λ own clean. let m = same (before clean) in
+          on_ok_weaker r (commits_asked old mid new C D (more own) (before clean) m) (then.ok (mine m own) clean);
+      err = λ own clean on. let m = same (before clean) in
+          on_err_weaker r (λ s. (m.0.was_open, s.1 ∙ m.0.now_is, s.2 ∙ m.0.committed_is)) (then.err (mine m own) clean on);
       mode = λ idle. then.mode (reads.mode idle);
       durable = λ own clean. then.durable (mine (same (before clean)) own) clean;
       crash = survives_then old mid new _ _ (λ db. IsCurrentSchema old.now.schema → IsAfter D old db) (λ clean db no own. absurd no)
@@ -28,16 +33,19 @@ ends_then {C = C} {D = D} {r = r} {old} {mid} {new} reads then more =
     }
 
 -- the tables are read first, so that a change is one of an open connection
-pub leaves_then : {round : Round} {Right : Database → Type 0} {U F V E : Type 0} {Told : Database → Result U F → Type 0} {C : Database → Database → Type 0} (D : Database → Database → Type 0) {u : U} {r : Result V E} {old mid new : State}
+pub leaves_then : {round : Round} {Right : Database → Type 0} {U F V E : Type 0} {Told : Database → Result U F → Type 0} {C : Database
+    → Database → Type 0} (D : Database → Database → Type 0) {u : U} {r : Result V E} {old mid new : State}
     → Reading round Anyhow Right Told (Ok u) old mid → CommitsChange C r mid new
     → (IsCurrentSchema old.now.schema → HasCleanDisk mid → (after : Database) → C old.now after → D old.now after) → LeavesMade D old new
 leaves_then {C = C} D {old = old} {mid} {new} reads then more =
-    survives_then old mid new _ _ (λ db. IsTrue old.is_open × (IsCurrentSchema old.now.schema → IsAfter D old db)) (λ clean db no. absurd no)
+    survives_then old mid new _ _ (λ db. IsTrue old.is_open × (IsCurrentSchema old.now.schema → IsAfter D old db))
+    (λ clean db no. absurd no)
     (λ clean db left.
     let early = clean_before mid new _ then.crash clean in
     let m = reads.same early tt in (
       m.0.was_open,
-      λ own. let l = left (subst (λ (d : Database). IsCurrentSchema d.schema) (sym m.0.now_is) own) in (l.0, more own early l.0 (subst (λ d. C d l.0) m.0.now_is l.1), l.2),
+      λ own. let l = left (subst (λ (d : Database). IsCurrentSchema d.schema) (sym m.0.now_is) own) in
+          (l.0, more own early l.0 (subst (λ d. C d l.0) m.0.now_is l.1), l.2),
     ))
     reads.crash then.crash
 
@@ -45,7 +53,12 @@ leaves_then {C = C} D {old = old} {mid} {new} reads then more =
 pub ends_more : {V E : Type 0} {C D : Database → Database → Type 0} {r : Result V E} {old new : State}
     → CommitsChange C r old new → ((after : Database) → C old.now after → D old.now after) → CommitsChange D r old new
 ends_more {r = r} {old} {new} h more = record {
-  ok = λ own clean. on_ok_weaker r (λ d. record { was_open = d.was_open; is_open = d.is_open; settled = d.settled; changed = more new.now d.changed }) (h.ok own clean);
+  ok = λ own clean. on_ok_weaker r (λ d. record {
+    was_open = d.was_open;
+    is_open = d.is_open;
+    settled = d.settled;
+    changed = more new.now d.changed;
+  }) (h.ok own clean);
   err = h.err;
   mode = h.mode;
   durable = h.durable;
@@ -57,7 +70,14 @@ pub ends_by : {V E : Type 0} (D : Database → Database → Type 0) (r : Result 
     → new.in_transaction ≡ false → (HasCleanDisk new → OnOk r (Commits D old new))
     → (HasCleanDisk new → IsTrue new.is_open → OnErr r (Stays old new))
     → (HasCleanDisk new → OnOk r (LeavesOnly new)) → Survives old new (IsAfter D old) → CommitsChange D r old new
-ends_by D r old new idle ok err durable crash = record { ok = λ own. ok; err = λ own. err; mode = λ _. idle; durable = λ own. durable; crash = survives_weaker old new _ _ (λ clean db left own. left) crash }
+ends_by D r old new idle ok err durable crash =
+    record {
+      ok = λ own. ok;
+      err = λ own. err;
+      mode = λ _. idle;
+      durable = λ own. durable;
+      crash = survives_weaker old new _ _ (λ clean db left own. left) crash;
+    }
 
 -- the tables are read, and one transaction makes the change
 module _
@@ -73,11 +93,13 @@ module _
     (crash : Survives mid new (IsAfter C mid)) where
   pub ends_asked : {round : Round} {Right : Database → Type 0} {U F : Type 0} {Told : Database → Result U F → Type 0} {u : U}
       → Reading round Anyhow Right Told (Ok u) old mid
-      → (IsCurrentSchema old.now.schema → HasCleanDisk mid → (after : Database) → C old.now after → D old.now after) → CommitsChange D r old new
+      → (IsCurrentSchema old.now.schema → HasCleanDisk mid → (after : Database) → C old.now after → D old.now after)
+      → CommitsChange D r old new
   ends_asked reads more = ends_then reads (ends_by C r mid new idle ok err durable crash) more
 
 -- the tables are read, and that or what comes of it is refused
-pub ends_refused : {round : Round} {Right : Database → Type 0} {U F V E : Type 0} {Told : Database → Result U F → Type 0} {D : Database → Database → Type 0} {x : Result U F} {r : Result V E} {old new : State}
+pub ends_refused : {round : Round} {Right : Database → Type 0} {U F V E : Type 0} {Told : Database → Result U F → Type 0} {D : Database
+    → Database → Type 0} {x : Result U F} {r : Result V E} {old new : State}
     → IsErr r → IsCommitted old → Reading round Anyhow Right Told x old new → CommitsChange D r old new
 ends_refused {r = Ok v} is settled reads = absurd (cc)
 ends_refused {U = U} {F} {x = x} {r = Err e} {old} {new} is settled reads = record {
@@ -94,25 +116,30 @@ ends_refused {U = U} {F} {x = x} {r = Err e} {old} {new} is settled reads = reco
     either (Err d) same err = err
 
 -- the tables are read, and there is nothing to do: what is open leaves what is committed alone
-pub ends_none : {round : Round} {Right : Database → Type 0} {U F V E : Type 0} {Told : Database → Result U F → Type 0} {D : Database → Database → Type 0} {u : U} {v : V} {old new : State}
+pub ends_none : {round : Round} {Right : Database → Type 0} {U F V E : Type 0} {Told : Database → Result U F → Type 0} {D : Database
+    → Database → Type 0} {u : U} {v : V} {old new : State}
     → IsCommitted old → ((db : Trees) → IsTrue new.is_open → new.may_leave db → db ≡ new.committed.trees)
-    → Reading round Anyhow Right Told (Ok u) old new → (IsCurrentSchema old.now.schema → HasCleanDisk new → D old.now old.now) → CommitsChange {V = V} {E = E} D (Ok v) old new
+    → Reading round Anyhow Right Told (Ok u) old new → (IsCurrentSchema old.now.schema → HasCleanDisk new → D old.now old.now)
+    → CommitsChange {V = V} {E = E} D (Ok v) old new
 ends_none {D = D} {old = old} {new} settled law reads done = record {
   ok = λ own clean. commits_none old new D settled (reads.same clean tt) (done own clean);
   err = λ own clean on. tt;
   mode = reads.mode;
   durable = λ own clean db leaves.
       let same = reads.same clean tt in
-      law db same.0.is_open leaves ∙ ap (λ (d : Database). d.trees) (same.0.committed_is ∙ sym (settled same.0.was_open) ∙ sym same.0.now_is);
+      law db same.0.is_open leaves ∙ ap (λ (d : Database). d.trees)
+      (same.0.committed_is ∙ sym (settled same.0.was_open) ∙ sym same.0.now_is);
   crash = survives_weaker old new _ _ (λ clean db no own. absurd no) reads.crash;
 }
 
 -- the same, with another fault for a fault
 pub ends_told : {V E F : Type 0} {D : Database → Database → Type 0} {x : Result V E} {r : Result V F} {old new : State}
     → IsSameUpToFault x r → CommitsChange D x old new → CommitsChange D r old new
-ends_told {D = D} {x = Ok v} {old = old} {new} is h = subst (λ r. CommitsChange D r old new) (sym is) (record { ok = h.ok; err = h.err; mode = h.mode; durable = h.durable; crash = h.crash })
+ends_told {D = D} {x = Ok v} {old = old} {new} is h =
+    subst (λ r. CommitsChange D r old new) (sym is) (record { ok = h.ok; err = h.err; mode = h.mode; durable = h.durable; crash = h.crash })
 ends_told {x = Err e} {r = Ok v} is h = absurd is
-ends_told {x = Err e} {r = Err f} is h = record { ok = λ own clean. tt; err = h.err; mode = h.mode; durable = λ own clean. tt; crash = h.crash }
+ends_told {x = Err e} {r = Err f} is h =
+    record { ok = λ own clean. tt; err = h.err; mode = h.mode; durable = λ own clean. tt; crash = h.crash }
 
 -- what is said of an answer
 pub told_if : {V E F : Type 0} (P : V → Type 0) (x : Result V E) (r : Result V F) → IsSameUpToFault x r → IfOk x P

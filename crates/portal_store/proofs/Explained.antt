@@ -9,14 +9,20 @@ use Rattle.portal_tables.specs.Steps.{HasRefusal, IsStoreError}
 use Rattle.portal_tables.specs.declared.select.Query.{Query}
 use Rattle.portal_tables.specs.declared.select.Query.TheVariants.{Office}
 use Rattle.portal_tables.proofs.Repeated.{answered_before, answers_still, refused_before}
-use Rattle.portal_store.specs.Crash.{Explains, IsAnswered, IsRejected, Passes, RefusesOne, ShowsOffice, ShowsVersion}
+use Rattle.portal_store.specs.Crash.{IsTrueOfQueries, IsAnswered, IsRejected, Passes, RefusesOne, ShowsOffice, ShowsVersion}
 use Rattle.portal_store.specs.Crash.{Suits, first_queries}
 use Rattle.portal_store.specs.inner.Asked.{TellsOffice}
-use Rattle.portal_store.specs.declared.store.OpenFault.TheVariants.{NotPortal, OtherVersion, Damaged, Store, Memory}
+use Rattle.portal_store.proofs.Asked.{by_nothing}
+use Rattle.portal_store.specs.declared.store.OpenFault.TheVariants.{NotPortal, OtherVersion, Damaged}
 
 -- the version that is shown depends on the database alone
 pub version_still : (of : ℕ) (a b : State) → b.now ≡ a.now → IsTrue b.is_open → ShowsVersion of a → ShowsVersion of b
-version_still of a b same on h = record { row = h.row; rest = h.rest; shown = answers_still Office a b (h.row ∷ h.rest) same on h.shown; version_is = h.version_is }
+version_still of a b same on h = record {
+  row = h.row;
+  rest = h.rest;
+  shown = answers_still Office a b (h.row ∷ h.rest) same on h.shown;
+  version_is = h.version_is;
+}
 
 -- one of some queries is refused
 pub refused_by : (query : Query) (s : State) (e : Error) → IsStoreError e ⊎ HasRefusal query s e
@@ -38,20 +44,15 @@ all_more P xs i x within all here =
 
 -- a fault that says nothing, or that is for the rows alone
 pub explains_said : (fault : OpenFault) (Own : Type 0) (of : ℕ) (later : List Query) (s : State) → SaysNothing fault
-    → Explains fault Own of later s
-explains_said NotPortal Own of later s h = absurd h
-explains_said OtherVersion Own of later s h = absurd h
-explains_said Damaged Own of later s h = absurd (h tt)
-explains_said Store Own of later s h = tt
-explains_said Memory Own of later s h = tt
+    → IsTrueOfQueries fault Own of later s
+explains_said fault Own of later s = by_nothing (λ f. IsTrueOfQueries f Own of later s) tt tt fault
 
 pub explains_rows : (fault : OpenFault) (Own : Type 0) (of : ℕ) (later : List Query) (s : State) → Suits Own of later s
-    → IsOfRows fault → Explains fault Own of later s
+    → IsOfRows fault → IsTrueOfQueries fault Own of later s
 explains_rows NotPortal Own of later s suits h = absurd h
 explains_rows OtherVersion Own of later s suits h = absurd h
 explains_rows Damaged Own of later s suits h = suits
-explains_rows Store Own of later s suits h = tt
-explains_rows Memory Own of later s suits h = tt
+explains_rows fault Own of later s suits h = tt
 
 -- such a fault is no damage
 pub no_damage : (fault : OpenFault) → SaysNothing fault → fault ≡ Damaged → ⊥
@@ -59,41 +60,33 @@ no_damage fault h is = (subst SaysNothing is h) tt
 
 -- a fault of queries, and of the rows that the office's shows
 pub explains_tables : {V : Type 0} (r : Result V OpenFault) (Own : Type 0) (of : ℕ) (later : List Query) (s : State)
-    → r ≢ Err Damaged → r ≢ Err OtherVersion → (r ≡ Err NotPortal → Explains NotPortal Own of later s)
-    → IfErr r (λ fault. Explains fault Own of later s)
-explains_tables (Ok v) Own of later s damaged version refused = tt
+    → r ≢ Err Damaged → r ≢ Err OtherVersion → (r ≡ Err NotPortal → IsTrueOfQueries NotPortal Own of later s)
+    → IfErr r (λ fault. IsTrueOfQueries fault Own of later s)
 explains_tables (Err NotPortal) Own of later s damaged version refused = refused refl
 explains_tables (Err OtherVersion) Own of later s damaged version refused = absurd (version refl)
 explains_tables (Err Damaged) Own of later s damaged version refused = absurd (damaged refl)
-explains_tables (Err Store) Own of later s damaged version refused = tt
-explains_tables (Err Memory) Own of later s damaged version refused = tt
+explains_tables r Own of later s damaged version refused = tt
 
 pub tells_office : {V : Type 0} (r : Result V OpenFault) (of : ℕ) (rows : List Row) (s : State) → ShowsOffice s rows
     → (r ≡ Err NotPortal → rows ≡ [])
-    → (r ≡ Err OtherVersion → (row : Row) × (rest : List Row) × (rows ≡ row ∷ rest) × (column row 1 ≢ Int (pos of))) → IfErr r (λ fault. fault ≡ Damaged → ⊥) → IfErr r (λ fault. TellsOffice fault of s)
-tells_office (Ok v) of rows s shown none other judged = tt
+    → (r ≡ Err OtherVersion → (row : Row) × (rest : List Row) × (rows ≡ row ∷ rest) × (column row 1 ≢ Int (pos of)))
+    → IfErr r (λ fault. fault ≡ Damaged → ⊥) → IfErr r (λ fault. TellsOffice fault of s)
 tells_office (Err NotPortal) of rows s shown none other judged = subst (ShowsOffice s) (none refl) shown
 tells_office (Err OtherVersion) of rows s shown none other judged =
     let it = other refl in record { row = it.0; rest = it.1; shown = subst (ShowsOffice s) it.2 shown; other = it.3 }
 tells_office (Err Damaged) of rows s shown none other judged = absurd (judged refl)
-tells_office (Err Store) of rows s shown none other judged = tt
-tells_office (Err Memory) of rows s shown none other judged = tt
+tells_office r of rows s shown none other judged = tt
 
 pub tells_said : (fault : OpenFault) (of : ℕ) (s : State) → SaysNothing fault → TellsOffice fault of s
-tells_said NotPortal of s h = absurd h
-tells_said OtherVersion of s h = absurd h
-tells_said Damaged of s h = absurd (h tt)
-tells_said Store of s h = tt
-tells_said Memory of s h = tt
+tells_said fault of s = by_nothing (λ f. TellsOffice f of s) tt tt fault
 
 -- of tables that pass the first queries
 pub explains_office : (fault : OpenFault) (Own : Type 0) (of : ℕ) (s : State) → Passes Own first_queries s
-    → TellsOffice fault of s → Explains fault Own of [] s
+    → TellsOffice fault of s → IsTrueOfQueries fault Own of [] s
 explains_office NotPortal Own of s passes h = inr (passes, inl h)
 explains_office OtherVersion Own of s passes h = (passes, h)
 explains_office Damaged Own of s passes h = absurd h
-explains_office Store Own of s passes h = tt
-explains_office Memory Own of s passes h = tt
+explains_office fault Own of s passes h = tt
 
 -- an error that is handed on, and one that is converted
 pub handed : {V : Type 0} {fault : OpenFault} (r : Result V OpenFault) (Says : OpenFault → Type 0)
@@ -108,14 +101,12 @@ converted (Err f) is so = so f is
 
 -- where more is asked
 pub explains_wide : (fault : OpenFault) (Own : Type 0) (of : ℕ) (later : List Query) (s : State)
-    → (fault ≡ Damaged → ⊥) → Explains fault Own of [] s → Explains fault Own of later s
+    → (fault ≡ Damaged → ⊥) → IsTrueOfQueries fault Own of [] s → IsTrueOfQueries fault Own of later s
 explains_wide NotPortal Own of later s other (inl one) = inl one
 explains_wide NotPortal Own of later s other (inr (passes, inl none)) = inr (passes, inl none)
 explains_wide NotPortal Own of later s other (inr (passes, inr both)) = absurd both.1
-explains_wide OtherVersion Own of later s other h = h
 explains_wide Damaged Own of later s other h = absurd (other refl)
-explains_wide Store Own of later s other h = tt
-explains_wide Memory Own of later s other h = tt
+explains_wide fault Own of later s other h = h
 
 -- of tables that count as own for another reason
 module _ (A B : Type 0) (so : A → B) (s : State) where
@@ -130,22 +121,30 @@ module _ (A B : Type 0) (so : A → B) (s : State) where
     passes_later = passes_for later h.passes_later;
   }
 
-  pub explains_for : (fault : OpenFault) (of : ℕ) (later : List Query) → Explains fault A of later s
-      → Explains fault B of later s
+  pub explains_for : (fault : OpenFault) (of : ℕ) (later : List Query) → IsTrueOfQueries fault A of later s
+      → IsTrueOfQueries fault B of later s
   explains_for NotPortal of later (inl one) = inl one
   explains_for NotPortal of later (inr both) = inr (passes_for first_queries both.0, both.1)
   explains_for OtherVersion of later both = (passes_for first_queries both.0, both.1)
   explains_for Damaged of later h = suits_for of later h
-  explains_for Store of later h = tt
-  explains_for Memory of later h = tt
+  explains_for fault of later h = tt
 
 -- before a look, the same was shown
 module _ (a b : State) (settled : IsCommitted a) (looks : OnlyLooks a b) (clean : HasCleanDisk b) where
   pub refused_so : (query : Query) → IsRejected query b → IsRejected query a
-  refused_so query h = record { error = h.error; refused = refused_before query a b settled looks clean h.error h.not_store h.refused; not_store = h.not_store }
+  refused_so query h = record {
+    error = h.error;
+    refused = refused_before query a b settled looks clean h.error h.not_store h.refused;
+    not_store = h.not_store;
+  }
 
   pub version_so : (of : ℕ) → ShowsVersion of b → ShowsVersion of a
-  version_so of h = record { row = h.row; rest = h.rest; shown = answered_before Office a b settled looks clean (h.row ∷ h.rest) h.shown; version_is = h.version_is }
+  version_so of h = record {
+    row = h.row;
+    rest = h.rest;
+    shown = answered_before Office a b settled looks clean (h.row ∷ h.rest) h.shown;
+    version_is = h.version_is;
+  }
 
   pub one_so : (queries : List Query) → RefusesOne queries b → RefusesOne queries a
   one_so [] h = absurd h
@@ -166,7 +165,10 @@ module _ (a b : State) (settled : IsCommitted a) (looks : OnlyLooks a b) (clean 
   pub office_so : (fault : OpenFault) (of : ℕ) → TellsOffice fault of b → TellsOffice fault of a
   office_so NotPortal of h = answered_before Office a b settled looks clean [] h
   office_so OtherVersion of h =
-      record { row = h.row; rest = h.rest; shown = answered_before Office a b settled looks clean (h.row ∷ h.rest) h.shown; other = h.other }
-  office_so Damaged of h = h
-  office_so Store of h = tt
-  office_so Memory of h = tt
+      record {
+        row = h.row;
+        rest = h.rest;
+        shown = answered_before Office a b settled looks clean (h.row ∷ h.rest) h.shown;
+        other = h.other;
+      }
+  office_so fault of h = h

@@ -16,7 +16,8 @@ unfolding world_in
 rows_have round db k there =
     let shown = map (lecturer_stored round db.trees) (db.trees lecturer_tree) in
     ap (λ l. has l k) (sym (keys_in round db.trees (db.trees lecturer_tree)))
-    ∙ sym (list_any-IsPermutation (equals k) (map lecturer_key (put_all lecturer_key shown [])) (map lecturer_key shown) (IsPermutation-map lecturer_key _ _ (IsPermutation-sym _ _ (permutes lecturer_key shown))))
+    ∙ sym (list_any-IsPermutation (equals k) (map lecturer_key (put_all lecturer_key shown [])) (map lecturer_key shown)
+    (IsPermutation-map lecturer_key _ _ (IsPermutation-sym _ _ (permutes lecturer_key shown))))
     ∙ there
 
 all_front : {X : Type 0} (P : X → Type 0) (xs ys : List X) → AllByRecursion P (xs ++ ys) → AllByRecursion P xs
@@ -50,8 +51,10 @@ pub rankings_go_on : {X : Type 0} (round : Round) (show : X → Key × List Key)
     → GoesOn (TurnsThere round (show x).0 (show x).1) mid new → GoesOn (TurnsAll round (map show (take (i + 1) xs))) old new
 rankings_go_on round show xs i x old mid new within at was step =
     let more : map show (take i xs) ++ show x ∷ [] ≡ map show (take (i + 1) xs) =
-    sym (ap (map show) (take_more xs i x within) ∙ map-append show (take i xs) (get_or xs i x ∷ []) ∙ ap (λ y. map show (take i xs) ++ show y ∷ []) (sym at)) in
-    subst (λ l. GoesOn (TurnsAll round l) old new) more (goes_both _ _ _ old mid new was step (all_go_on round (map show (take i xs)) (show x) old.now mid.now new.now))
+    sym (ap (map show) (take_more xs i x within) ∙ map-append show (take i xs) (get_or xs i x ∷ [])
+    ∙ ap (λ y. map show (take i xs) ++ show y ∷ []) (sym at)) in
+    subst (λ l. GoesOn (TurnsAll round l) old new) more
+    (goes_both _ _ _ old mid new was step (all_go_on round (map show (take i xs)) (show x) old.now mid.now new.now))
 
 pub fill_turns : (round : Round) (fs : List (Key × List Key)) (first now : Database)
     → (IsConsistentIn round first → Sound (world_in round first.trees) → fs ≡ fill_missing (world_in round first.trees))

@@ -16,7 +16,8 @@ ranked_more w (g ∷ fs) f = ranked_more (changed w (Ranks g.0 g.1)) fs f
 pub keys_still : (w : World) (fs : List (Key × List Key))
     → map lecturer_key (with_rankings w fs).lecturers ≡ map lecturer_key w.lecturers
 keys_still w [] = refl
-keys_still w (f ∷ fs) = keys_still (changed w (Ranks f.0 f.1)) fs ∙ map_same lecturer_key (with_ranking f.0 f.1) (same_key f.0 f.1) w.lecturers
+keys_still w (f ∷ fs) = keys_still (changed w (Ranks f.0 f.1)) fs
+    ∙ map_same lecturer_key (with_ranking f.0 f.1) (same_key f.0 f.1) w.lecturers
 
 -- a lecturer under all of these
 with_all : List (Key × List Key) → Lecturer → Lecturer
@@ -69,7 +70,9 @@ module _ (w : World) where
           ap (with_all (among ls)) (sym (ranking_here x.row.key (keys_for x) x (is_own x.row.key)))
           ∙ others_only ls (record x { ranking = Some (map student_key (applicants_of w x.row.key)) }) d.0
       go false = others_only ls x d.0
-  each_filled (x ∷ ls) l d (inr has) = one_other (is_still_to_rank w x) x ls l (with_fill w l) (is_sym l.row.key x.row.key ∙ at (λ m. equals x.row.key (lecturer_key m) ≡ false) ls l (all_unmap (λ k. equals x.row.key k ≡ false) lecturer_key ls d.0) has) (each_filled ls l d.1 has)
+  each_filled (x ∷ ls) l d (inr has) = one_other (is_still_to_rank w x) x ls l (with_fill w l)
+      (is_sym l.row.key x.row.key ∙ at (λ m. equals x.row.key (lecturer_key m) ≡ false) ls l
+      (all_unmap (λ k. equals x.row.key k ≡ false) lecturer_key ls d.0) has) (each_filled ls l d.1 has)
 
   pub all_filled : Rise (map lecturer_key w.lecturers) → with_rankings w (fill_missing w) ≡ changed w Fill
   all_filled up =
@@ -81,4 +84,5 @@ module _ (w : World) where
   fills_there =
       let keys = map lecturer_key w.lecturers in
       all_map (λ (f : Key × List Key). has keys f.0 ≡ true) fill_for (filter (is_still_to_rank w) w.lecturers)
-      (all-filter (λ l. has keys (lecturer_key l) ≡ true) (is_still_to_rank w) w.lecturers (all_unmap (λ k. has keys k ≡ true) lecturer_key w.lecturers (all_has (λ k. has keys k ≡ true) keys (has_of keys))))
+      (all-filter (λ l. has keys (lecturer_key l) ≡ true) (is_still_to_rank w) w.lecturers
+      (all_unmap (λ k. has keys k ≡ true) lecturer_key w.lecturers (all_has (λ k. has keys k ≡ true) keys (has_of keys))))

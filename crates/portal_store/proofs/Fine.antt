@@ -51,7 +51,8 @@ module _ (w : World) (one : w.round ≡ First) (good : Good w) where
   stable so = subst (λ u. IsStable (instance_of u) (places_of u)) (first_plays w one) (good.stable so)
 
   known_projects : AllByRecursion IsKey (project_keys w)
-  known_projects = all_map IsKey project_key w.projects (all_weaker IsProject (λ p. IsKey (project_key p)) (λ p x. x.key) w.projects good.sound.project_forms)
+  known_projects = all_map IsKey project_key w.projects
+      (all_weaker IsProject (λ p. IsKey (project_key p)) (λ p x. x.key) w.projects good.sound.project_forms)
 
   abbrev place_of : Student → Option ℕ
   place_of s = option_map (number_in (project_keys w)) s.placed
@@ -61,11 +62,14 @@ module _ (w : World) (one : w.round ≡ First) (good : Good w) where
       → IsOn (map (number_in (project_keys w)) choice) (number_in (project_keys w) k) → has choice k ≡ true
   listed [] k low on = absurd (omega (arith, on))
   listed (c ∷ cs) k low on =
-      (elim (number_in (project_keys w) c == number_in (project_keys w) k) as (λ b. (number_in (project_keys w) c == number_in (project_keys w) k) ≡ b
-      → cond b 0 (1 + place (map (number_in (project_keys w)) cs) (number_in (project_keys w) k)) < suc (length (map (number_in (project_keys w)) cs)) → has (c ∷ cs) k ≡ true) [
+      (elim (number_in (project_keys w) c == number_in (project_keys w) k) as
+      (λ b. (number_in (project_keys w) c == number_in (project_keys w) k) ≡ b
+      → cond b 0 (1 + place (map (number_in (project_keys w)) cs) (number_in (project_keys w) k)) < suc
+      (length (map (number_in (project_keys w)) cs)) → has (c ∷ cs) k ≡ true) [
         | true ↦ λ e f.
             let same : number_in (project_keys w) c ≡ number_in (project_keys w) k = grind (arith, nat_tests) in
-            let key : c ≡ k = sym (number_is (project_keys w) c (subst (λ n. n < length (project_keys w)) (sym same) low)) ∙ ap (λ n. get_or (project_keys w) n []) same ∙ number_is (project_keys w) k low in
+            let key : c ≡ k = sym (number_is (project_keys w) c (subst (λ n. n < length (project_keys w)) (sym same) low))
+            ∙ ap (λ n. get_or (project_keys w) n []) same ∙ number_is (project_keys w) k low in
             ap (λ b. b || has cs k) (subst (λ x. equals k x ≡ true) (sym key) (is_own k))
         | false ↦ λ e f. ap (λ b. equals k c || b) (listed cs k low (omega arith)) ∙ or-true (equals k c)
       ]) refl on
@@ -74,16 +78,20 @@ module _ (w : World) (one : w.round ≡ First) (good : Good w) where
       → (get_or w.students i d).placed ≡ o → IfSome o (λ p. has (get_or w.students i d).choice p ≡ true)
   is_listed held i d low None e = tt
   is_listed held i d low (Some p) e =
-      let here : get_or (places_of w) i None ≡ Some (number_in (project_keys w) p) = get_or-map place_of w.students i d None low ∙ ap (option_map (number_in (project_keys w))) e in
+      let here : get_or (places_of w) i None ≡ Some (number_in (project_keys w) p) = get_or-map place_of w.students i d None low
+      ∙ ap (option_map (number_in (project_keys w))) e in
       let on = held.matching.acceptable i (number_in (project_keys w) p) here in
       listed (get_or w.students i d).choice p (on_roll (project_keys w) w.students known_choices i (number_in (project_keys w) p) on)
-      (subst (λ l. IsOn l (number_in (project_keys w) p)) (get_or-map (λ (s : Student). map (number_in (project_keys w)) s.choice) w.students i d [] low) on)
+      (subst (λ l. IsOn l (number_in (project_keys w) p))
+      (get_or-map (λ (s : Student). map (number_in (project_keys w)) s.choice) w.students i d [] low) on)
 
   -- who is placed has the project on the list
   pub placed_listed : AllByRecursion (λ s. IfSome s.placed (λ p. has s.choice p ≡ true)) w.students
   placed_listed = elim (cases_Bool (is_published w.phase)) [
-    | inl so ↦ recursion_from_All (λ s. IfSome s.placed (λ p. has s.choice p ≡ true)) w.students (λ i d low. is_listed (stable so) i d low (get_or w.students i d).placed refl)
-    | inr other ↦ all_weaker (λ s. s.placed ≡ None) (λ s. IfSome s.placed (λ p. has s.choice p ≡ true)) (λ s e. subst (λ o. IfSome o (λ p. has s.choice p ≡ true)) (sym e) tt) w.students (good.sound.no_result_yet other)
+    | inl so ↦ recursion_from_All (λ s. IfSome s.placed (λ p. has s.choice p ≡ true)) w.students
+        (λ i d low. is_listed (stable so) i d low (get_or w.students i d).placed refl)
+    | inr other ↦ all_weaker (λ s. s.placed ≡ None) (λ s. IfSome s.placed (λ p. has s.choice p ≡ true))
+        (λ s e. subst (λ o. IfSome o (λ p. has s.choice p ≡ true)) (sym e) tt) w.students (good.sound.no_result_yet other)
   ]
 
 -- who is left has what is so of those who are, and who is not has nothing
@@ -91,7 +99,8 @@ filtered : (P : Student → Type 0) (ss : List Student) → AllByRecursion (λ s
     → AllByRecursion P (filter is_left ss) → AllByRecursion P ss
 filtered P [] others all = tt
 filtered P (s ∷ ss) others all =
-    (elim (is_left s) as (λ b. is_left s ≡ b → AllByRecursion P (cond b (s ∷ filter is_left ss) (filter is_left ss)) → AllByRecursion P (s ∷ ss)) [
+    (elim (is_left s) as (λ b. is_left s ≡ b → AllByRecursion P (cond b (s ∷ filter is_left ss) (filter is_left ss))
+    → AllByRecursion P (s ∷ ss)) [
       | true ↦ λ e h. (h.0, filtered P ss others.1 h.1)
       | false ↦ λ e h. (others.0 e, filtered P ss others.1 h)
     ]) refl all
@@ -111,15 +120,19 @@ module _ (w : World) (good : Good w) where
   placed_on_lists =
       let OnList : Student → Type 0 = λ s. IfSome s.placed (λ p. has s.choice p ≡ true) in
       of_all w.round OnList w.students
-      (all_weaker (λ s. is_left s ≡ false → (s.choice ≡ []) × (s.placed ≡ None)) (λ s. is_left s ≡ false → OnList s) (λ s h e. subst (λ o. IfSome o (λ p. has s.choice p ≡ true)) (sym (h e).1) tt) w.students good.sound.only_left)
+      (all_weaker (λ s. is_left s ≡ false → (s.choice ≡ []) × (s.placed ≡ None)) (λ s. is_left s ≡ false → OnList s)
+      (λ s h e. subst (λ o. IfSome o (λ p. has s.choice p ≡ true)) (sym (h e).1) tt) w.students good.sound.only_left)
       (all_unmap OnList alone_student (students_in w.round w.students) (placed_listed (alone (in_play w)) refl as_one))
 
   pub choice_keys : AllByRecursion (λ s. AllByRecursion IsKey s.choice) w.students
   choice_keys = all_weaker (λ s. IsChoice (project_keys (in_play w)) s.choice) (λ s. AllByRecursion IsKey s.choice)
-      (λ s x. all_weaker (λ p. has (project_keys (in_play w)) p ≡ true) IsKey (λ p known. among (project_keys (in_play w)) (known_projects (alone (in_play w)) refl as_one) p known) s.choice x.known) w.students good.sound.choices
+      (λ s x. all_weaker (λ p. has (project_keys (in_play w)) p ≡ true) IsKey
+      (λ p known. among (project_keys (in_play w)) (known_projects (alone (in_play w)) refl as_one) p known) s.choice x.known)
+      w.students good.sound.choices
 
   pub placed_keys : AllByRecursion (λ s. IfSome s.placed IsKey) w.students
-  placed_keys = all_two (λ s. IfSome s.placed (λ p. has s.choice p ≡ true)) (λ s. AllByRecursion IsKey s.choice) (λ s. IfSome s.placed IsKey) (λ s on keys. placed_key s.choice keys s.placed on) w.students placed_on_lists choice_keys
+  placed_keys = all_two (λ s. IfSome s.placed (λ p. has s.choice p ≡ true)) (λ s. AllByRecursion IsKey s.choice)
+      (λ s. IfSome s.placed IsKey) (λ s on keys. placed_key s.choice keys s.placed on) w.students placed_on_lists choice_keys
 
   known_students : AllByRecursion (λ s. IsKey (student_key s)) w.students
   known_students = all_weaker (λ s. IsStudent s.row) (λ s. IsKey (student_key s)) (λ s x. x.key) w.students good.sound.student_forms
@@ -130,10 +143,12 @@ module _ (w : World) (good : Good w) where
   ranked_keys : (l : Key) (o : Option (List Key)) → IfSome o (IsRanking (map student_key (applicants_of w l)))
       → IfSome o (AllByRecursion IsKey)
   ranked_keys l None h = tt
-  ranked_keys l (Some list) h = all_weaker (λ s. has (map student_key (applicants_of w l)) s ≡ true) IsKey (λ s known. among (map student_key (applicants_of w l)) (applicant_keys l) s known) list h.only
+  ranked_keys l (Some list) h = all_weaker (λ s. has (map student_key (applicants_of w l)) s ≡ true) IsKey
+      (λ s known. among (map student_key (applicants_of w l)) (applicant_keys l) s known) list h.only
 
   pub ranking_keys : AllByRecursion (λ l. IfSome l.ranking (AllByRecursion IsKey)) w.lecturers
-  ranking_keys = all_weaker (λ l. IfSome l.ranking (IsRanking (map student_key (applicants_of w l.row.key)))) (λ l. IfSome l.ranking (AllByRecursion IsKey)) (λ l h. ranked_keys l.row.key l.ranking h) w.lecturers good.sound.rankings
+  ranking_keys = all_weaker (λ l. IfSome l.ranking (IsRanking (map student_key (applicants_of w l.row.key))))
+      (λ l. IfSome l.ranking (AllByRecursion IsKey)) (λ l h. ranked_keys l.row.key l.ranking h) w.lecturers good.sound.rankings
 
 -- a student has one row of the second round's result
 abbrev pub PlacesOnce : Round → Trees → Type 0
@@ -150,12 +165,14 @@ module _ (round : Round) (db : Trees) (whole : Whole round db) (good : Good (wor
   of_lecturers : (P : Lecturer → Type 0) → AllByRecursion P (world_in round db).lecturers
       → AllByRecursion (λ r. P (lecturer_stored round db r)) (by_key (db lecturer_tree))
   unfolding world_in
-  of_lecturers P all = all_unmap P (lecturer_stored round db) (by_key (db lecturer_tree)) (subst (AllByRecursion P) (lecturers_by_key round db) all)
+  of_lecturers P all = all_unmap P (lecturer_stored round db) (by_key (db lecturer_tree))
+      (subst (AllByRecursion P) (lecturers_by_key round db) all)
 
   of_students : (P : Student → Type 0) → AllByRecursion P (world_in round db).students
       → AllByRecursion (λ r. P (student_stored round db r)) (by_key (db student_tree))
   unfolding world_in
-  of_students P all = all_unmap P (student_stored round db) (by_key (db student_tree)) (subst (AllByRecursion P) (students_by_key round db) all)
+  of_students P all = all_unmap P (student_stored round db) (by_key (db student_tree))
+      (subst (AllByRecursion P) (students_by_key round db) all)
 
   of_projects : (P : ProjectRow → Type 0) → AllByRecursion P (world_in round db).projects
       → AllByRecursion (λ r. P (project_row r)) (by_key (db project_tree))
@@ -165,9 +182,12 @@ module _ (round : Round) (db : Trees) (whole : Whole round db) (good : Good (wor
   pub rolls_rise : RollsRise db
   unfolding world_in
   rolls_rise = record {
-    lecturers_rise = subst Rise (ap (map lecturer_key) (lecturers_by_key round db) ∙ map-map lecturer_key (lecturer_stored round db) (by_key (db lecturer_tree))) good.sound.lecturers_rise;
-    projects_rise = subst Rise (ap (map project_key) (projects_by_key round db) ∙ map-map project_key project_row (by_key (db project_tree))) good.sound.projects_rise;
-    students_rise = subst Rise (ap (map student_key) (students_by_key round db) ∙ map-map student_key (student_stored round db) (by_key (db student_tree))) good.sound.students_rise;
+    lecturers_rise = subst Rise (ap (map lecturer_key) (lecturers_by_key round db)
+        ∙ map-map lecturer_key (lecturer_stored round db) (by_key (db lecturer_tree))) good.sound.lecturers_rise;
+    projects_rise = subst Rise (ap (map project_key) (projects_by_key round db)
+        ∙ map-map project_key project_row (by_key (db project_tree))) good.sound.projects_rise;
+    students_rise = subst Rise (ap (map student_key) (students_by_key round db)
+        ∙ map-map student_key (student_stored round db) (by_key (db student_tree))) good.sound.students_rise;
   }
 
   in_order : (P : Row → Type 0) (table : List Row) → AllByRecursion P table → AllByRecursion P (by_key table)
@@ -189,7 +209,9 @@ module _ (round : Round) (db : Trees) (whole : Whole round db) (good : Good (wor
   names_of false key none h = subst (λ rows. AllByRecursion IsKey (list_in_order rows)) (sym (none refl)) tt
 
   fine_ranking : (r : Row) → IsLecturer (lecturer_row r) × IfSome (ranking_in round db r) (AllByRecursion IsKey)
-      → IsWhole (of_key (row_key r) (db (tree_of (ranking_table round)))) × (is_ranked round db r ≡ false → of_key (row_key r) (db (tree_of (ranking_table round))) ≡ []) → IsFine (ranking_table round) db (lecturer_columns r)
+      → IsWhole (of_key (row_key r) (db (tree_of (ranking_table round))))
+      × (is_ranked round db r ≡ false → of_key (row_key r) (db (tree_of (ranking_table round))) ≡ [])
+      → IsFine (ranking_table round) db (lecturer_columns r)
   fine_ranking r forms lists = record {
     key = forms.0.key;
     read = record { whole = lists.0; none = λ e. lists.1 (sym (has_ranked round db r) ∙ e) };
@@ -213,21 +235,31 @@ module _ (round : Round) (db : Trees) (whole : Whole round db) (good : Good (wor
       let ranked = in_order _ (db lecturer_tree) whole.ranked in
       record {
         lecturer_forms = all_map (λ c. IsLecturer (shown_lecturer c)) lecturer_columns L lecturers;
-        project_forms = all_map (λ c. IsProject (shown_project c)) roll_columns (by_key (db project_tree)) (of_projects IsProject good.sound.project_forms);
+        project_forms = all_map (λ c. IsProject (shown_project c)) roll_columns (by_key (db project_tree))
+            (of_projects IsProject good.sound.project_forms);
         student_forms = all_map (λ c. IsStudent (shown_student c)) roll_columns S students;
-        places = all_map (HasPlacement round db) roll_columns S (all_weaker (λ r. IfSome (placement_in_round round db r) IsKey) (λ r. HasPlacement round db (roll_columns r)) (has_place round db once) S places);
-        choices = all_map (IsFine C db) roll_columns S (all_two (λ r. IsStudent (student_row r) × AllByRecursion IsKey (choice_in round db r)) (λ r. IsWhole (of_key (row_key r) (db (tree_of C)))) (λ r. IsFine C db (roll_columns r)) fine_choice S
-            (all_both (λ r. IsStudent (student_row r)) (λ r. AllByRecursion IsKey (choice_in round db r)) S students choices) whole_choices);
-        rankings = all_map (IsFine R db) lecturer_columns L (all_two (λ r. IsLecturer (lecturer_row r) × IfSome (ranking_in round db r) (AllByRecursion IsKey))
-            (λ r. IsWhole (of_key (row_key r) (db (tree_of R))) × (is_ranked round db r ≡ false → of_key (row_key r) (db (tree_of R)) ≡ [])) (λ r. IsFine R db (lecturer_columns r)) fine_ranking L
+        places = all_map (HasPlacement round db) roll_columns S
+            (all_weaker (λ r. IfSome (placement_in_round round db r) IsKey) (λ r. HasPlacement round db (roll_columns r))
+            (has_place round db once) S places);
+        choices = all_map (IsFine C db) roll_columns S
+            (all_two (λ r. IsStudent (student_row r) × AllByRecursion IsKey (choice_in round db r))
+            (λ r. IsWhole (of_key (row_key r) (db (tree_of C)))) (λ r. IsFine C db (roll_columns r)) fine_choice S
+            (all_both (λ r. IsStudent (student_row r)) (λ r. AllByRecursion IsKey (choice_in round db r)) S students choices)
+            whole_choices);
+        rankings = all_map (IsFine R db) lecturer_columns L
+            (all_two (λ r. IsLecturer (lecturer_row r) × IfSome (ranking_in round db r) (AllByRecursion IsKey))
+            (λ r. IsWhole (of_key (row_key r) (db (tree_of R))) × (is_ranked round db r ≡ false → of_key (row_key r) (db (tree_of R)) ≡ []))
+            (λ r. IsFine R db (lecturer_columns r)) fine_ranking L
             (all_both (λ r. IsLecturer (lecturer_row r)) (λ r. IfSome (ranking_in round db r) (AllByRecursion IsKey)) L lecturers rankings)
-            (all_both (λ r. IsWhole (of_key (row_key r) (db (tree_of R)))) (λ r. is_ranked round db r ≡ false → of_key (row_key r) (db (tree_of R)) ≡ []) L whole_rankings ranked));
+            (all_both (λ r. IsWhole (of_key (row_key r) (db (tree_of R))))
+            (λ r. is_ranked round db r ≡ false → of_key (row_key r) (db (tree_of R)) ≡ []) L whole_rankings ranked));
       }
 
 pub office_code : (round : Round) (of : ℕ) (db : Trees) (office : HasOffice of (db portal_tree))
     → Good (world_in round db) → is_code office.office ≡ true
 unfolding world_in
-office_code round of db office good = subst (λ rows. is_code (bytes (column (slice_index_or rows 0 []) 4)) ≡ true) office.is good.sound.office_form
+office_code round of db office good = subst
+    (λ rows. is_code (bytes (column (slice_index_or rows 0 []) 4)) ≡ true) office.is good.sound.office_form
 
 -- the first round's tables stand for what the second round's world says of the first
 
@@ -235,12 +267,15 @@ pub first_left : (db : Trees) → phase_in First db ≡ Published → first (wor
 unfolding world_in
 first_left db published = λ i. record (world_in First db) {
   phase = sym published i;
-  lecturers = (ap (map first_published) (lecturers_by_key Second db) ∙ map-map first_published (lecturer_stored Second db) (by_key (db lecturer_tree)) ∙ sym (lecturers_by_key First db)) i;
-  students = (ap (map first_placed) (students_by_key Second db) ∙ map-map first_placed (student_stored Second db) (by_key (db student_tree)) ∙ sym (students_by_key First db)) i;
+  lecturers = (ap (map first_published) (lecturers_by_key Second db)
+      ∙ map-map first_published (lecturer_stored Second db) (by_key (db lecturer_tree)) ∙ sym (lecturers_by_key First db)) i;
+  students = (ap (map first_placed) (students_by_key Second db) ∙ map-map first_placed (student_stored Second db) (by_key (db student_tree))
+      ∙ sym (students_by_key First db)) i;
 }
 
 pub good_before : (w : World) → is_second w.round ≡ true → Good w → Good (first w)
-good_before w second good = let before = good.before second in record { sound = before.sound; stable = before.stable; before = λ e. absurd (cc) }
+good_before w second good = let before = good.before second in
+    record { sound = before.sound; stable = before.stable; before = λ e. absurd (cc) }
 
 pub stands_before : (db : Trees) → HasGoodWorldIn Second db → HasGoodFirst version db
 unfolding world_in

@@ -16,13 +16,15 @@ none P rows is = subst (AllByRecursion P) (sym is) tt
 
 module _ (office : Key) (db : Database) (f : IsFresh office db) where
   -- all tables but `portal` and `second` are empty
-  parts : AllByRecursion (λ t. t ≢ portal_tree → t ≢ second_tree → db.trees t ≡ []) early_trees × AllByRecursion (λ t. t ≢ portal_tree → t ≢ second_tree → db.trees t ≡ []) (second_tree ∷ later_trees)
+  parts : AllByRecursion (λ t. t ≢ portal_tree → t ≢ second_tree → db.trees t ≡ []) early_trees
+      × AllByRecursion (λ t. t ≢ portal_tree → t ≢ second_tree → db.trees t ≡ []) (second_tree ∷ later_trees)
   parts = parts_of (λ t. t ≢ portal_tree → t ≢ second_tree → db.trees t ≡ []) early_trees (second_tree ∷ later_trees) f.others.1
 
   empty : (trees : List ℕ) → list_all (λ t. not (eqb t portal_tree)) trees ≡ true
       → list_all (λ t. not (eqb t second_tree)) trees ≡ true
       → AllByRecursion (λ t. t ≢ portal_tree → t ≢ second_tree → db.trees t ≡ []) trees → AllByRecursion (λ t. db.trees t ≡ []) trees
-  empty trees p s all = others_are (λ t. db.trees t ≡ []) second_tree trees s (others_are (λ t. t ≢ second_tree → db.trees t ≡ []) portal_tree trees p all)
+  empty trees p s all = others_are (λ t. db.trees t ≡ []) second_tree trees s
+      (others_are (λ t. t ≢ second_tree → db.trees t ≡ []) portal_tree trees p all)
 
   firsts : AllByRecursion (λ t. db.trees t ≡ []) early_trees
   firsts = empty early_trees refl refl parts.0
@@ -35,7 +37,11 @@ module _ (office : Key) (db : Database) (f : IsFresh office db) where
     apart = fresh_apart office db f;
     office = record { phase = Setup; office = office; is = f.row };
     second = record { is = f.second; says = empty later_trees refl refl parts.1.1 };
-    whole = record { choices = none _ (db.trees 6) firsts.1.1.0; rankings = none _ (db.trees 1) firsts.0; ranked = none _ (db.trees 1) firsts.0 };
+    whole = record {
+      choices = none _ (db.trees 6) firsts.1.1.0;
+      rankings = none _ (db.trees 1) firsts.0;
+      ranked = none _ (db.trees 1) firsts.0;
+    };
   }
 
   pub first_holds : IsConsistent db
@@ -61,11 +67,16 @@ module _ (office : Key) (db : Database) (f : IsFresh office db) where
 -- a store over them
 pub first_kept : {S : Type 0} (g : Ghosts S) (office : Key) (own : Bool) (old new : Held S) → new.in_transaction ≡ false
     → (IsTrue own → old.schema ≡ no_schema) → (IsTrue (state g new).is_open → HasCleanDisk (state g new))
-    → (HasCleanDisk (state g new) → Commits (Creates office) (state g old) (state g new)) → (HasCleanDisk (state g new) → LeavesOnly (state g new)) → IsKept g new own
+    → (HasCleanDisk (state g new) → Commits (Creates office) (state g old) (state g new))
+    → (HasCleanDisk (state g new) → LeavesOnly (state g new)) → IsKept g new own
 first_kept g office own old new idle none_before shut did only = record {
   idle = idle;
   ready = λ mine on.
       let made = did (shut on) in
       record { settled = made.settled; holds = first_holds office (state g new).now (made.changed (none_before mine)) };
-  left = λ mine clean db may. ((state g new).now, only clean db may, first_holds office (state g new).now ((did clean).changed (none_before mine)));
+  left = λ mine clean db may. (
+    (state g new).now,
+    only clean db may,
+    first_holds office (state g new).now ((did clean).changed (none_before mine)),
+  );
 }

@@ -22,6 +22,7 @@ pub mod Opened
 pub mod Placements
 pub mod Queried
 pub mod RankTurns
+pub mod Refreshed
 pub mod Rounds
 pub mod RowsOnce
 pub mod SecondPlacements

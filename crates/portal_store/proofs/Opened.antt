@@ -1,11 +1,11 @@
 -- The second round opens by one UPDATE of one row.
 use Rattle.portal_store.proofs.Base.{◌≡◌, Result, ℕ, pos, true, false, not, ◌&&◌, eqb, [], map, slice_index_or, refl}
 use Rattle.portal_store.proofs.Base.{sym, ap, subst, ◌∙◌, list_any, Row, column, bytes, Database, State, number_in}
-use Rattle.portal_store.proofs.Base.{Phase, Setup, Choosing, Ranking, Published, Round, First, Second, put_all, World}
-use Rattle.portal_store.proofs.Base.{is_published, is_second, lecturer_key, project_key, student_key, Change, Choices}
-use Rattle.portal_store.proofs.Base.{Ranks, Lecturers, Projects, Students, To, Placements, Fill, SecondRound}
+use Rattle.portal_store.proofs.Base.{Phase, Choosing, Published, Round, First, Second, put_all, World}
+use Rattle.portal_store.proofs.Base.{is_published, is_second, lecturer_key, project_key, student_key, Change}
+use Rattle.portal_store.proofs.Base.{SecondRound}
 use Rattle.portal_store.proofs.Base.{HasFirstSchema, IsCurrentSchema, of_key, IsWhole, HasOffice, row_key, second_row}
-use Rattle.portal_store.proofs.Base.{MovesSecond, portal_tree, lecturer_tree, project_tree, student_tree, choice_tree}
+use Rattle.portal_store.proofs.Base.{MovesTo, portal_tree, lecturer_tree, project_tree, student_tree, choice_tree}
 use Rattle.portal_store.proofs.Base.{ranking_tree, second_tree, choice2_tree, ranked2_tree, ranking2_tree}
 use Rattle.portal_store.proofs.Base.{assigned2_tree, own_trees, version, apart_one, put_all_map, map_alike, map_twice}
 use Rattle.portal_store.proofs.Base.{phase_numbered, phase_in, lecturer_stored, project_row, student_stored, world_in}
@@ -16,7 +16,8 @@ use Rattle.portal_store.proofs.Rounds.{from_in, world_told}
 use Rattle.portal_store.proofs.SecondRows.{lecturer_after, student_after}
 use Rattle.portal_store.proofs.Still.{apart_kept, first_kept, kept_at, whole_first}
 
-module _ (old new : Database) (holds : IsConsistentIn First old) (published : phase_in First old.trees ≡ Published) (moves : MovesSecond 1 old new) where
+module _ (old new : Database) (holds : IsConsistentIn First old) (published : phase_in First old.trees ≡ Published)
+    (moves : MovesTo Second 1 old new) where
   abbrev done : Becomes second_tree (second_row (pos 1)) old new
   done = moves holds.current (pos 0) holds.second.is
 
@@ -30,10 +31,12 @@ module _ (old new : Database) (holds : IsConsistentIn First old) (published : ph
   rankings2 = kept ranking2_tree refl refl ∙ holds.second.says.1.1.0
 
   student_before : (r : Row) → student_stored Second new.trees r ≡ placed_before (student_stored First old.trees r)
-  student_before r = λ i. student_after (choices2 i) ((kept assigned2_tree refl refl ∙ holds.second.says.1.1.1.0) i) (kept choice_tree refl refl i) r
+  student_before r = λ i. student_after (choices2 i) ((kept assigned2_tree refl refl ∙ holds.second.says.1.1.1.0) i)
+      (kept choice_tree refl refl i) r
 
   lecturer_before : (r : Row) → lecturer_stored Second new.trees r ≡ ranked_before (lecturer_stored First old.trees r)
-  lecturer_before r = λ i. lecturer_after ((kept ranked2_tree refl refl ∙ holds.second.says.1.0) i) (rankings2 i) (kept ranking_tree refl refl i) r
+  lecturer_before r = λ i. lecturer_after ((kept ranked2_tree refl refl ∙ holds.second.says.1.0) i) (rankings2 i)
+      (kept ranking_tree refl refl i) r
 
   abbrev was : World
   was = world_in First old.trees
@@ -41,14 +44,19 @@ module _ (old new : Database) (holds : IsConsistentIn First old) (published : ph
   second_world : world_in Second new.trees ≡ opened First Published was
   unfolding world_in
   second_world =
-      let students : put_all student_key (map (student_stored Second new.trees) (new.trees student_tree)) [] ≡ map placed_before (put_all student_key (map (student_stored First old.trees) (old.trees student_tree)) []) =
+      let students : put_all student_key (map (student_stored Second new.trees) (new.trees student_tree)) []
+      ≡ map placed_before (put_all student_key (map (student_stored First old.trees) (old.trees student_tree)) []) =
       ap (λ rows. put_all student_key (map (student_stored Second new.trees) rows) []) (kept student_tree refl refl)
-      ∙ ap (λ l. put_all student_key l []) (map_alike _ _ (old.trees student_tree) student_before ∙ map_twice placed_before (student_stored First old.trees) (old.trees student_tree))
+      ∙ ap (λ l. put_all student_key l []) (map_alike _ _ (old.trees student_tree) student_before
+      ∙ map_twice placed_before (student_stored First old.trees) (old.trees student_tree))
       ∙ put_all_map student_key student_key placed_before (λ s. refl) (map (student_stored First old.trees) (old.trees student_tree)) [] in
-      let lecturers : put_all lecturer_key (map (lecturer_stored Second new.trees) (new.trees lecturer_tree)) [] ≡ map ranked_before (put_all lecturer_key (map (lecturer_stored First old.trees) (old.trees lecturer_tree)) []) =
+      let lecturers : put_all lecturer_key (map (lecturer_stored Second new.trees) (new.trees lecturer_tree)) []
+      ≡ map ranked_before (put_all lecturer_key (map (lecturer_stored First old.trees) (old.trees lecturer_tree)) []) =
       ap (λ rows. put_all lecturer_key (map (lecturer_stored Second new.trees) rows) []) (kept lecturer_tree refl refl)
-      ∙ ap (λ l. put_all lecturer_key l []) (map_alike _ _ (old.trees lecturer_tree) lecturer_before ∙ map_twice ranked_before (lecturer_stored First old.trees) (old.trees lecturer_tree))
-      ∙ put_all_map lecturer_key lecturer_key ranked_before (λ l. refl) (map (lecturer_stored First old.trees) (old.trees lecturer_tree)) [] in
+      ∙ ap (λ l. put_all lecturer_key l []) (map_alike _ _ (old.trees lecturer_tree) lecturer_before
+      ∙ map_twice ranked_before (lecturer_stored First old.trees) (old.trees lecturer_tree))
+      ∙ put_all_map lecturer_key lecturer_key ranked_before (λ l. refl)
+      (map (lecturer_stored First old.trees) (old.trees lecturer_tree)) [] in
       λ i. record {
         round = Second;
         phase = phase_numbered (number_in (column (slice_index_or (done.rows i) 0 []) 2));
@@ -63,7 +71,8 @@ module _ (old new : Database) (holds : IsConsistentIn First old) (published : ph
     current = subst IsCurrentSchema (sym done.schema_is) holds.current;
     own = subst HasFirstSchema (sym done.schema_is) holds.own;
     sound = done.sound;
-    apart = apart_kept second_tree old new done.others (apart_one (new.trees second_tree) (second_row (pos 1)) (pos 1) refl done.rows) holds.apart;
+    apart = apart_kept second_tree old new done.others
+        (apart_one (new.trees second_tree) (second_row (pos 1)) (pos 1) refl done.rows) holds.apart;
     office = subst (HasOffice version) (sym (kept portal_tree refl refl)) holds.office;
     second = record {
       phase = Choosing;
@@ -89,18 +98,15 @@ module _ (old new : Database) (holds : IsConsistentIn First old) (published : ph
     world = world_told Second new.trees opened_holds.second ∙ second_world ∙ ap (λ p. opened First p was) (sym published);
   }
 
-pub second_opens : (old new : Database) → MovesSecond 1 old new → OpensSecondRound old new
+pub second_opens : (old new : Database) → MovesTo Second 1 old new → OpensSecondRound old new
 second_opens old new moves holds published = turned old new holds published moves
 
 -- it opens from there alone
 
 is_first : (round : Round) (phase : Phase) → (not (is_second round) && is_published phase) ≡ true
     → (round ≡ First) × (phase ≡ Published)
-is_first First Setup e = absurd (cc)
-is_first First Choosing e = absurd (cc)
-is_first First Ranking e = absurd (cc)
 is_first First Published e = (refl, refl)
-is_first Second phase e = absurd (cc)
+is_first round phase e = absurd (cc)
 
 pub opens_in : (round : Round) (phase : Phase) (old new : Database)
     → (not (is_second round) && is_published phase) ≡ true → phase_in First old.trees ≡ phase → OpensSecondRound old new
@@ -111,11 +117,8 @@ opens_in round phase old new e is opens =
 
 stays : (round : Round) (phase : Phase) (w : World) → (not (is_second round) && is_published phase) ≡ false
     → opened round phase w ≡ w
-stays First Setup w e = refl
-stays First Choosing w e = refl
-stays First Ranking w e = refl
 stays First Published w e = absurd (cc)
-stays Second phase w e = refl
+stays round phase w e = refl
 
 -- elsewhere nothing changes
 pub opens_none : (round : Round) (phase : Phase) (db : Database) → (not (is_second round) && is_published phase) ≡ false
@@ -123,7 +126,8 @@ pub opens_none : (round : Round) (phase : Phase) (db : Database) → (not (is_se
 unfolding world_in
 opens_none First phase db e is holds good better = record {
   holds = (First, holds);
-  world = world_told First db.trees holds.second ∙ sym (stays First (phase_in First db.trees) (world_in First db.trees) (ap (λ p. not (is_second First) && is_published p) is ∙ e));
+  world = world_told First db.trees holds.second
+      ∙ sym (stays First (phase_in First db.trees) (world_in First db.trees) (ap (λ p. not (is_second First) && is_published p) is ∙ e));
 }
 opens_none Second phase db e is holds good better = record { holds = (Second, holds); world = world_told Second db.trees holds.second }
 
@@ -133,11 +137,4 @@ pub ends_any : {V E : Type 0} (round : Round) (change : Change) (r : Result V E)
     → (change ≡ SecondRound → CommitsChange (IsTransitionFrom round SecondRound) r old new)
     → CommitsChange (IsTransitionFrom round change) r old new
 ends_any round SecondRound r old new stay begins = begins refl
-ends_any round (Choices k list) r old new stay begins = ends_more (stay refl) (λ after. from_in round (Choices k list) old.now after)
-ends_any round (Ranks k list) r old new stay begins = ends_more (stay refl) (λ after. from_in round (Ranks k list) old.now after)
-ends_any round (Lecturers rows) r old new stay begins = ends_more (stay refl) (λ after. from_in round (Lecturers rows) old.now after)
-ends_any round (Projects rows) r old new stay begins = ends_more (stay refl) (λ after. from_in round (Projects rows) old.now after)
-ends_any round (Students rows) r old new stay begins = ends_more (stay refl) (λ after. from_in round (Students rows) old.now after)
-ends_any round (To phase) r old new stay begins = ends_more (stay refl) (λ after. from_in round (To phase) old.now after)
-ends_any round (Placements pairs) r old new stay begins = ends_more (stay refl) (λ after. from_in round (Placements pairs) old.now after)
-ends_any round Fill r old new stay begins = ends_more (stay refl) (λ after. from_in round Fill old.now after)
+ends_any round change r old new stay begins = ends_more (stay refl) (λ after. from_in round change old.now after)

@@ -32,7 +32,8 @@ none_with : (k : Key) (table : List Row) → AllByRecursion IsLecturerRow table
     → AllByRecursion (λ l. equals k l ≡ false) (map row_key table)
     → filter (has_text 1 k) table ≡ []
 none_with k table all d =
-    filter_none (has_text 1 k) table (all_two IsLecturerRow (λ r. equals k (row_key r) ≡ false) (λ r. has_text 1 k r ≡ false) (λ r f e. key_test k r f ∙ is_sym (row_key r) k ∙ e) table all (all_unmap (λ l. equals k l ≡ false) row_key table d))
+    filter_none (has_text 1 k) table (all_two IsLecturerRow (λ r. equals k (row_key r) ≡ false) (λ r. has_text 1 k r ≡ false)
+    (λ r f e. key_test k r f ∙ is_sym (row_key r) k ∙ e) table all (all_unmap (λ l. equals k l ≡ false) row_key table d))
 
 one_row : (k : Key) (table : List Row) → AllByRecursion IsLecturerRow table → IsDistinct equals (map row_key table)
     → has (map row_key table) k ≡ true
@@ -44,7 +45,8 @@ one_row k (r ∷ table) all d h = elim (cases_Bool (equals (row_key r) k)) [
       let e : row_key r ≡ k = is_same (row_key r) k same in
       record {
         row = r;
-        is = rw (key_test k r all.0 ∙ same) (ap (λ l. r ∷ l) (none_with k table all.1 (subst (λ x. AllByRecursion (λ l. equals x l ≡ false) (map row_key table)) e d.0)));
+        is = rw (key_test k r all.0 ∙ same) (ap (λ l. r ∷ l)
+            (none_with k table all.1 (subst (λ x. AllByRecursion (λ l. equals x l ≡ false) (map row_key table)) e d.0)));
         formed = all.0;
         key = e;
       }
@@ -57,10 +59,12 @@ one_row k (r ∷ table) all d h = elim (cases_Bool (equals (row_key r) k)) [
 others_apart : (k : Key) (table : List Row) → AllByRecursion IsLecturerRow table
     → AllByRecursion (λ r. equals (row_key r) k ≡ false) (filter (λ r. not (has_text 1 k r)) table)
 others_apart k table all =
-    all_weaker (λ r. IsLecturerRow r × (not (has_text 1 k r) ≡ true)) (λ r. equals (row_key r) k ≡ false) (λ r h. sym (key_test k r h.0) ∙ not_true (has_text 1 k r) h.1) _ (sifted IsLecturerRow (λ r. not (has_text 1 k r)) table all)
+    all_weaker (λ r. IsLecturerRow r × (not (has_text 1 k r) ≡ true)) (λ r. equals (row_key r) k ≡ false)
+    (λ r h. sym (key_test k r h.0) ∙ not_true (has_text 1 k r) h.1) _ (sifted IsLecturerRow (λ r. not (has_text 1 k r)) table all)
 
 pub same_key : (k : Key) (list : List Key) (l : Lecturer) → lecturer_key (with_ranking k list l) ≡ lecturer_key l
-same_key k list l = elim (equals l.row.key k) as (λ b. lecturer_key (cond b (record l { ranking = Some list }) l) ≡ lecturer_key l) [ true ↦ refl | false ↦ refl ]
+same_key k list l = elim (equals l.row.key k) as
+    (λ b. lecturer_key (cond b (record l { ranking = Some list }) l) ≡ lecturer_key l) [ true ↦ refl | false ↦ refl ]
 
 -- the lists of an owner are whole; an owner with no ranking has no row of one
 abbrev WholeIn : List Row → Row → Type 0
@@ -70,9 +74,11 @@ abbrev NoneUnranked : List Row → Row → Type 0
 NoneUnranked lists r = has_ranking r ≡ false → of_key (row_key r) lists ≡ []
 
 -- the ranking is put, and then the lecturer's one row says so
-module _ (k : Key) (list : List Key) (first mid now : Database) (put : HasPut ranking_tree k list first mid) (n : ℤ) (name code : List ℕ) (capacity was : ℤ)
+module _ (k : Key) (list : List Key) (first mid now : Database) (put : HasPut ranking_tree k list first mid) (n : ℤ) (name code : List ℕ)
+    (capacity was : ℤ)
     (one : filter (has_text 1 k) (first.trees lecturer_tree) ≡ (Int n ∷ lecturer_cells k name code capacity was) ∷ [])
-    (set : Sets lecturer_tree (has_text 1 k) (Int n ∷ lecturer_cells k name code capacity (pos 1)) mid now) (formed : AllByRecursion IsLecturerRow (first.trees lecturer_tree)) where
+    (set : Sets lecturer_tree (has_text 1 k) (Int n ∷ lecturer_cells k name code capacity (pos 1)) mid now)
+    (formed : AllByRecursion IsLecturerRow (first.trees lecturer_tree)) where
   abbrev before : Row
   before = Int n ∷ lecturer_cells k name code capacity was
 
@@ -86,38 +92,45 @@ module _ (k : Key) (list : List Key) (first mid now : Database) (put : HasPut ra
   lecturers = kept_at ranking_tree first mid put.tables lecturer_tree refl refl
 
   old_rows : IsPermutation (first.trees 1) (before ∷ rest)
-  old_rows = subst (λ l. IsPermutation (first.trees 1) (l ++ rest)) one (IsPermutation-filter_both (has_text 1 k) (λ r. not (has_text 1 k r)) (λ r. refl) (first.trees 1))
+  old_rows = subst (λ l. IsPermutation (first.trees 1) (l ++ rest)) one
+      (IsPermutation-filter_both (has_text 1 k) (λ r. not (has_text 1 k r)) (λ r. refl) (first.trees 1))
 
   new_rows : IsPermutation (after ∷ rest) (now.trees 1)
   new_rows =
       let split = put_splits after (filter (λ r. not (has_text 1 k r)) (mid.trees 1)) set.free in
       let back : IsPermutation (split.0 ++ after ∷ split.1) (after ∷ (split.0 ++ split.1)) = IsPermutation-middle split.0 after split.1 in
       let from : split.0 ++ split.1 ≡ rest = sym split.2 ∙ ap (filter (λ r. not (has_text 1 k r))) lecturers in
-      subst (λ l. IsPermutation (after ∷ l) (now.trees 1)) from (subst (IsPermutation (after ∷ (split.0 ++ split.1))) (sym (set.rows ∙ split.3)) (IsPermutation-sym _ _ back))
+      subst (λ l. IsPermutation (after ∷ l) (now.trees 1)) from
+      (subst (IsPermutation (after ∷ (split.0 ++ split.1))) (sym (set.rows ∙ split.3)) (IsPermutation-sym _ _ back))
 
   other_row : (r : Row) → equals (row_key r) k ≡ false
       → lecturer_of_cells (mid.trees 12) r ≡ with_ranking k list (lecturer_of_cells (first.trees 12) r)
   other_row r other =
       let same : chosen (mid.trees 12) (row_key r) ≡ chosen (first.trees 12) (row_key r) =
       chosen_is ranking_tree k list first mid put (row_key r) ∙ rw other refl in
-      (λ i. record { row = lecturer_row r; ranking = cond (has_ranking r) (Some (same i)) None; earlier_ranking = None }) ∙ sym (ranking_elsewhere k list (lecturer_of_cells (first.trees 12) r) other)
+      (λ i. record { row = lecturer_row r; ranking = cond (has_ranking r) (Some (same i)) None; earlier_ranking = None })
+      ∙ sym (ranking_elsewhere k list (lecturer_of_cells (first.trees 12) r) other)
 
   this_row : lecturer_of_cells (mid.trees 12) after ≡ with_ranking k list (lecturer_of_cells (first.trees 12) before)
   this_row =
       let same : chosen (mid.trees 12) k ≡ list = chosen_is ranking_tree k list first mid put k ∙ rw (is_own k) refl in
-      (λ i. record { row = lecturer_row before; ranking = Some (same i); earlier_ranking = None }) ∙ ranking_here k list (lecturer_of_cells (first.trees 12) before) (is_own k)
+      (λ i. record { row = lecturer_row before; ranking = Some (same i); earlier_ranking = None })
+      ∙ ranking_here k list (lecturer_of_cells (first.trees 12) before) (is_own k)
 
   apart_rest : AllByRecursion (λ r. equals (row_key r) k ≡ false) rest
   apart_rest = others_apart k (first.trees 1) formed
 
-  all_rows : map (lecturer_of_cells (mid.trees 12)) (after ∷ rest) ≡ map (with_ranking k list) (map (lecturer_of_cells (first.trees 12)) (before ∷ rest))
+  all_rows : map (lecturer_of_cells (mid.trees 12)) (after ∷ rest)
+      ≡ map (with_ranking k list) (map (lecturer_of_cells (first.trees 12)) (before ∷ rest))
   all_rows =
       let others : map (lecturer_of_cells (mid.trees 12)) rest ≡ map (with_ranking k list) (map (lecturer_of_cells (first.trees 12)) rest) =
-      all_map_on (λ r. equals (row_key r) k ≡ false) _ _ rest apart_rest other_row ∙ map_twice (with_ranking k list) (lecturer_of_cells (first.trees 12)) rest in
+      all_map_on (λ r. equals (row_key r) k ≡ false) _ _ rest apart_rest other_row
+      ∙ map_twice (with_ranking k list) (lecturer_of_cells (first.trees 12)) rest in
       λ i. this_row i ∷ others i
 
   roll_is : Rise (map lecturer_key (put_all lecturer_key (map (lecturer_of_cells (first.trees 12)) (first.trees 1)) []))
-      → put_all lecturer_key (map (lecturer_of_cells (mid.trees 12)) (now.trees 1)) [] ≡ map (with_ranking k list) (put_all lecturer_key (map (lecturer_of_cells (first.trees 12)) (first.trees 1)) [])
+      → put_all lecturer_key (map (lecturer_of_cells (mid.trees 12)) (now.trees 1)) []
+      ≡ map (with_ranking k list) (put_all lecturer_key (map (lecturer_of_cells (first.trees 12)) (first.trees 1)) [])
   roll_is up =
       let show : Row → Lecturer = lecturer_of_cells (first.trees 12) in
       let turn : Lecturer → Lecturer = with_ranking k list in
@@ -125,10 +138,12 @@ module _ (k : Key) (list : List Key) (first mid now : Database) (put : HasPut ra
       let front : put_all lecturer_key (map show (before ∷ rest)) [] ≡ olds =
       put_same lecturer_key (map show (first.trees 1)) (map show (before ∷ rest)) (IsPermutation-map show _ _ old_rows) up in
       let turned : put_all lecturer_key (map (lecturer_of_cells (mid.trees 12)) (after ∷ rest)) [] ≡ map turn olds =
-      ap (λ l. put_all lecturer_key l []) all_rows ∙ put_all_map lecturer_key lecturer_key turn (same_key k list) (map show (before ∷ rest)) [] ∙ ap (map turn) front in
+      ap (λ l. put_all lecturer_key l []) all_rows
+      ∙ put_all_map lecturer_key lecturer_key turn (same_key k list) (map show (before ∷ rest)) [] ∙ ap (map turn) front in
       let still : Rise (map lecturer_key (put_all lecturer_key (map (lecturer_of_cells (mid.trees 12)) (after ∷ rest)) [])) =
       subst Rise (sym (ap (map lecturer_key) turned ∙ map_same lecturer_key turn (same_key k list) olds)) up in
-      put_same lecturer_key (map (lecturer_of_cells (mid.trees 12)) (after ∷ rest)) (map (lecturer_of_cells (mid.trees 12)) (now.trees 1)) (IsPermutation-map (lecturer_of_cells (mid.trees 12)) _ _ new_rows) still
+      put_same lecturer_key (map (lecturer_of_cells (mid.trees 12)) (after ∷ rest)) (map (lecturer_of_cells (mid.trees 12)) (now.trees 1))
+      (IsPermutation-map (lecturer_of_cells (mid.trees 12)) _ _ new_rows) still
       ∙ turned
 
   -- the tables at the start, with the new rankings and lecturers
@@ -145,12 +160,18 @@ module _ (k : Key) (list : List Key) (first mid now : Database) (put : HasPut ra
 
   rank_whole : Whole First first.trees → Whole First now.trees
   rank_whole was =
-      let all_old : AllByRecursion (WholeIn (first.trees 12)) (before ∷ rest) = all_permuted _ (first.trees 1) (before ∷ rest) old_rows was.rankings in
-      let ranked_old : AllByRecursion (NoneUnranked (first.trees 12)) (before ∷ rest) = all_permuted _ (first.trees 1) (before ∷ rest) old_rows was.ranked in
+      let all_old : AllByRecursion (WholeIn (first.trees 12)) (before ∷ rest) =
+      all_permuted _ (first.trees 1) (before ∷ rest) old_rows was.rankings in
+      let ranked_old : AllByRecursion (NoneUnranked (first.trees 12)) (before ∷ rest) =
+      all_permuted _ (first.trees 1) (before ∷ rest) old_rows was.ranked in
       let whole = λ (r : Row) (h : WholeIn (first.trees 12) r). whole_at ranking_tree k list first mid put (row_key r) h in
-      let all_new : AllByRecursion (WholeIn (mid.trees 12)) (after ∷ rest) = (whole before all_old.0, all_weaker _ _ whole rest all_old.1) in
-      let ranked_new : AllByRecursion (NoneUnranked (mid.trees 12)) (after ∷ rest) =
-      (λ e. absurd (cc), all_two (λ r. equals (row_key r) k ≡ false) _ _ (λ r other h e. put.others (row_key r) other ∙ h e) rest apart_rest ranked_old.1) in
+      let all_new : AllByRecursion (WholeIn (mid.trees 12)) (after ∷ rest) =
+      (whole before all_old.0, all_weaker _ _ whole rest all_old.1) in
+      let ranked_new : AllByRecursion (NoneUnranked (mid.trees 12)) (after ∷ rest) = (
+        λ e. absurd (cc),
+        all_two (λ r. equals (row_key r) k ≡ false) _ _
+            (λ r other h e. put.others (row_key r) other ∙ h e) rest apart_rest ranked_old.1,
+      ) in
       whole_same First there now.trees same (record {
         choices = was.choices;
         rankings = all_permuted _ (after ∷ rest) (now.trees 1) new_rows all_new;
@@ -162,7 +183,9 @@ module _ (k : Key) (list : List Key) (first mid now : Database) (put : HasPut ra
     current = subst IsCurrentSchema (sym (set.schema_is ∙ put.schema_is)) was.current;
     own = subst HasFirstSchema (sym (set.schema_is ∙ put.schema_is)) was.own;
     sound = set.sound;
-    apart = apart_kept lecturer_tree mid now set.others (sets_apart lecturer_tree (has_text 1 k) after n mid now refl set (subst RowNumbersDiffer (sym lecturers) was.apart.1.0)) (apart_kept ranking_tree first mid put.tables put.apart was.apart);
+    apart = apart_kept lecturer_tree mid now set.others
+        (sets_apart lecturer_tree (has_text 1 k) after n mid now refl set (subst RowNumbersDiffer (sym lecturers) was.apart.1.0))
+        (apart_kept ranking_tree first mid put.tables put.apart was.apart);
     office = subst (HasOffice version) (sym same.0) was.office;
     second = second_kept lecturer_tree mid now refl set.others (second_kept ranking_tree first mid refl put.tables was.second);
     whole = rank_whole was.whole;

@@ -1,7 +1,7 @@
 -- The round of the tables, and the world that they stand for in it.
 use Rattle.portal_store.proofs.Base.{◌≡◌, ℕ, if◌then◌else◌, pos, true, false, [], ◌∷◌, slice_index_or, refl, sym, ap}
 use Rattle.portal_store.proofs.Base.{subst, ◌∙◌, List, map, column, bytes, Row, Trees, Database, number_in, Phase}
-use Rattle.portal_store.proofs.Base.{Setup, Choosing, Ranking, Published, Round, First, Second, is_setup, lecturer_key}
+use Rattle.portal_store.proofs.Base.{Setup, Published, Round, First, Second, is_setup, lecturer_key}
 use Rattle.portal_store.proofs.Base.{Change, changed, Good, Key, portal_tree, second_tree, version, number_of_phase}
 use Rattle.portal_store.proofs.Base.{Office, IsNow, portal_row, second_row, row_key, world_in, world_of, phase_numbered}
 use Rattle.portal_store.proofs.Base.{phase_in, round_in, lecturer_stored, HasSecond, IsConsistent, IsConsistentIn}
@@ -16,21 +16,15 @@ round_by n = if n == 0 then First else Second
 by_phase : (p : Phase) → is_setup p ≡ false
     → round_by (number_in (column (slice_index_or (second_row (pos (number_of_phase p)) ∷ []) 0 []) 2)) ≡ Second
 by_phase Setup e = absurd (cc)
-by_phase Choosing e = refl
-by_phase Ranking e = refl
-by_phase Published e = refl
+by_phase p e = refl
 
 by_setup : (p : Phase) → is_setup p ≡ true → p ≡ Setup
 by_setup Setup e = refl
-by_setup Choosing e = absurd (cc)
-by_setup Ranking e = absurd (cc)
-by_setup Published e = absurd (cc)
+by_setup p e = absurd (cc)
 
 pub phase_back : (p : Phase) → phase_numbered (number_of_phase p) ≡ p
 phase_back Setup = refl
-phase_back Choosing = refl
-phase_back Ranking = refl
-phase_back Published = refl
+phase_back p = refl
 
 -- the round is what the row of `second` tells
 pub round_told : (round : Round) (db : Trees) → HasSecond round db → round_in db ≡ round
@@ -64,16 +58,19 @@ judged_stands db second judged = (round_in db, record { office = judged.office; 
 -- what `second` may tell
 module _ (db : Trees) (phase : Phase) (row : db second_tree ≡ second_row (pos (number_of_phase phase)) ∷ []) where
   pub first_by : is_setup phase ≡ true → round_in db ≡ First
-  first_by setup = ap (λ rows. round_by (number_in (column (slice_index_or rows 0 []) 2))) (row ∙ ap (λ p. second_row (pos (number_of_phase p)) ∷ []) (by_setup phase setup))
+  first_by setup = ap (λ rows. round_by (number_in (column (slice_index_or rows 0 []) 2)))
+      (row ∙ ap (λ p. second_row (pos (number_of_phase p)) ∷ []) (by_setup phase setup))
 
   pub second_by : is_setup phase ≡ false → round_in db ≡ Second
   second_by other = ap (λ rows. round_by (number_in (column (slice_index_or rows 0 []) 2))) row ∙ by_phase phase other
 
   pub none_told : is_setup phase ≡ true → AreEmpty db → HasSecond (round_in db) db
-  none_told setup none = subst (λ r. HasSecond r db) (sym (first_by setup)) (record { is = row ∙ ap (λ p. second_row (pos (number_of_phase p)) ∷ []) (by_setup phase setup); says = none })
+  none_told setup none = subst (λ r. HasSecond r db) (sym (first_by setup))
+      (record { is = row ∙ ap (λ p. second_row (pos (number_of_phase p)) ∷ []) (by_setup phase setup); says = none })
 
   pub one_told : is_setup phase ≡ false → phase_in First db ≡ Published → HasSecond (round_in db) db
-  one_told other published = subst (λ r. HasSecond r db) (sym (second_by other)) (record { phase = phase; is = row; opened = other; first = published })
+  one_told other published = subst (λ r. HasSecond r db) (sym (second_by other))
+      (record { phase = phase; is = row; opened = other; first = published })
 
 -- what holds of tables of either round, where their round is known
 pub held_in : (round : Round) (db : Database) → IsConsistent db → round_in db.trees ≡ round → IsConsistentIn round db
@@ -102,7 +99,8 @@ unfolding world_of world_in
 office_told db phase code row = sym (ap (λ rows. bytes (column (slice_index_or rows 0 []) 4)) row)
 
 -- what the rows of `second` and `portal` tell is so of the world
-module _ (db : Trees) (second : Phase) (row : db second_tree ≡ second_row (pos (number_of_phase second)) ∷ []) (office : Office) (there : db portal_tree ≡ portal_row (pos version) (pos (number_of_phase office.phase)) office.code ∷ []) where
+module _ (db : Trees) (second : Phase) (row : db second_tree ≡ second_row (pos (number_of_phase second)) ∷ []) (office : Office)
+    (there : db portal_tree ≡ portal_row (pos version) (pos (number_of_phase office.phase)) office.code ∷ []) where
   pub now_first : is_setup second ≡ true → IsNow (world_of db) First office
   unfolding world_of world_in
   now_first setup = record {
@@ -115,7 +113,8 @@ module _ (db : Trees) (second : Phase) (row : db second_tree ≡ second_row (pos
   unfolding world_of world_in
   now_second other = record {
     round_is = second_by db second row other;
-    phase_is = ap (λ r. phase_in r db) (second_by db second row other) ∙ ap (λ rows. phase_numbered (number_in (column (slice_index_or rows 0 []) 2))) row ∙ phase_back second;
+    phase_is = ap (λ r. phase_in r db) (second_by db second row other)
+        ∙ ap (λ rows. phase_numbered (number_in (column (slice_index_or rows 0 []) 2))) row ∙ phase_back second;
     code_is = sym (office_told db office.phase office.code there);
   }
 
@@ -139,4 +138,5 @@ key_in Second db r = refl
 
 pub keys_in : (round : Round) (db : Trees) (rows : List Row)
     → map lecturer_key (map (lecturer_stored round db) rows) ≡ map row_key rows
-keys_in round db rows = sym (map_twice lecturer_key (lecturer_stored round db) rows) ∙ map_alike (λ r. lecturer_key (lecturer_stored round db r)) row_key rows (key_in round db)
+keys_in round db rows = sym (map_twice lecturer_key (lecturer_stored round db) rows)
+    ∙ map_alike (λ r. lecturer_key (lecturer_stored round db r)) row_key rows (key_in round db)

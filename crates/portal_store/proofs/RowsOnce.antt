@@ -17,19 +17,32 @@ nothing_before w same =
 pub rows_once : (w v : World) → Sound w → (is_second v.round ≡ false → HasNothingBefore v) → world_rows v ≡ world_rows w
     → v ≡ w
 rows_once w v sound before same =
-    λ i. record { round = (same i).round; phase = (same i).phase; office = (same i).office; lecturers = lecturers i; projects = (same i).projects; students = students i }
+    λ i. record {
+      round = (same i).round;
+      phase = (same i).phase;
+      office = (same i).office;
+      lecturers = lecturers i;
+      projects = (same i).projects;
+      students = students i;
+    }
   where
     lecturers_rise : Rise (map (λ l. l.row.key) v.lecturers)
     lecturers_rise =
-        subst Rise (sym (map-map (λ (r : LecturerRow). r.key) (λ (l : Lecturer). l.row) w.lecturers) ∙ ap (λ (r : RowsOfWorld). map (λ l. l.key) r.lecturers) (sym same) ∙ map-map (λ (r : LecturerRow). r.key) (λ (l : Lecturer). l.row) v.lecturers) sound.lecturers_rise
+        subst Rise (sym (map-map (λ (r : LecturerRow). r.key) (λ (l : Lecturer). l.row) w.lecturers)
+        ∙ ap (λ (r : RowsOfWorld). map (λ l. l.key) r.lecturers) (sym same)
+        ∙ map-map (λ (r : LecturerRow). r.key) (λ (l : Lecturer). l.row) v.lecturers) sound.lecturers_rise
 
     students_rise : Rise (map (λ s. s.row.key) v.students)
     students_rise =
-        subst Rise (sym (map-map (λ (r : StudentRow). r.key) (λ (s : Student). s.row) w.students) ∙ ap (λ (r : RowsOfWorld). map (λ s. s.key) r.students) (sym same) ∙ map-map (λ (r : StudentRow). r.key) (λ (s : Student). s.row) v.students) sound.students_rise
+        subst Rise (sym (map-map (λ (r : StudentRow). r.key) (λ (s : Student). s.row) w.students)
+        ∙ ap (λ (r : RowsOfWorld). map (λ s. s.key) r.students) (sym same)
+        ∙ map-map (λ (r : StudentRow). r.key) (λ (s : Student). s.row) v.students) sound.students_rise
 
     lecturers : v.lecturers ≡ w.lecturers
     lecturers =
-        same_some _ _ (sym (lecturers_back v.lecturers lecturers_rise) ∙ ap (λ (r : RowsOfWorld). lecturers_fitting r.lecturers r.rankings r.earlier_rankings) same ∙ lecturers_back w.lecturers sound.lecturers_rise)
+        same_some _ _ (sym (lecturers_back v.lecturers lecturers_rise)
+        ∙ ap (λ (r : RowsOfWorld). lecturers_fitting r.lecturers r.rankings r.earlier_rankings) same
+        ∙ lecturers_back w.lecturers sound.lecturers_rise)
 
     students : v.students ≡ w.students
     students =

@@ -13,7 +13,8 @@ use Rattle.sqlite_trees.specs.Tree.{Trees}
 pub apart_among : (trees : List ℕ) (tree : ℕ) (old new : Trees) → AllByRecursion (λ t. t ≢ tree → new t ≡ old t) trees
     → RowNumbersDiffer (new tree) → AllNumbersDiffer trees old → AllNumbersDiffer trees new
 apart_among trees tree old new keeps apart was =
-    all_two (λ t. t ≢ tree → new t ≡ old t) (λ t. RowNumbersDiffer (old t)) (λ t. RowNumbersDiffer (new t)) (λ t same a. elim (eqb_tells t tree) [
+    all_two (λ t. t ≢ tree → new t ≡ old t) (λ t. RowNumbersDiffer (old t)) (λ t. RowNumbersDiffer (new t))
+    (λ t same a. elim (eqb_tells t tree) [
       | inl met ↦ subst (λ x. RowNumbersDiffer (new x)) (sym met.1) apart
       | inr missed ↦ subst RowNumbersDiffer (sym (same missed.1)) a
     ]) trees keeps was
@@ -34,7 +35,8 @@ one_of P (x ∷ trees) all t h = elim (eqb_tells x t) [
 -- a table that is another than the one that has changed
 pub kept_at : (tree : ℕ) (old new : Database) → Keeps tree old new → (t : ℕ) → list_any (λ x. eqb x t) own_trees ≡ true
     → eqb t tree ≡ false → new.trees t ≡ old.trees t
-kept_at tree old new keeps t there other = one_of (λ x. x ≢ tree → new.trees x ≡ old.trees x) own_trees keeps t there (eqb-false t tree other)
+kept_at tree old new keeps t there other =
+    one_of (λ x. x ≢ tree → new.trees x ≡ old.trees x) own_trees keeps t there (eqb-false t tree other)
 
 -- Tables are compared by some trees alone: what reads no others reads the same, by computation.
 
@@ -71,7 +73,8 @@ one_changed tree old new = one_among own_trees tree old.trees new.trees
 pub two_changed : (s t : ℕ) (old mid new : Database) → Keeps s old mid → Keeps t mid new
     → AllByRecursion (λ x. new.trees x ≡ but_two s t old mid new x) own_trees
 two_changed s t old mid new first next =
-    all_two (λ x. mid.trees x ≡ but_one s old mid x) (λ x. new.trees x ≡ but_one t mid new x) (λ x. new.trees x ≡ but_two s t old mid new x) (λ x p q. q ∙ ap (λ rows. cond (eqb x t) (new.trees t) rows) p) own_trees
+    all_two (λ x. mid.trees x ≡ but_one s old mid x) (λ x. new.trees x ≡ but_one t mid new x) (λ x. new.trees x ≡ but_two s t old mid new x)
+    (λ x p q. q ∙ ap (λ rows. cond (eqb x t) (new.trees t) rows) p) own_trees
     (one_changed s old mid first) (one_changed t mid new next)
 
 -- the world of tables that are the same
@@ -108,12 +111,14 @@ whole_of round db lists = record { choices = lists.0; rankings = lists.1; ranked
 
 pub whole_first : (old new : Trees) → AllByRecursion (λ t. new t ≡ old t) first_trees → Whole First old
     → Whole First new
-whole_first old new same was = whole_of First new (subst (Lists First) (sym (same_among first_trees old new same)) (was.choices, was.rankings, was.ranked))
+whole_first old new same was = whole_of First new
+    (subst (Lists First) (sym (same_among first_trees old new same)) (was.choices, was.rankings, was.ranked))
 
 pub whole_same : (round : Round) (old new : Trees) → AllByRecursion (λ t. new t ≡ old t) own_trees → Whole round old
     → Whole round new
 whole_same First old new same was = whole_first old new (first_of old new same) was
-whole_same Second old new same was = whole_of Second new (subst (Lists Second) (sym (same_among own_trees old new same)) (was.choices, was.rankings, was.ranked))
+whole_same Second old new same was = whole_of Second new
+    (subst (Lists Second) (sym (same_among own_trees old new same)) (was.choices, was.rankings, was.ranked))
 
 -- In the first round
 
@@ -125,7 +130,8 @@ pub second_kept : (tree : ℕ) (old new : Database) → IsOfFirst tree → Keeps
     → IsUnopened new.trees
 second_kept tree old new of_first keeps was =
     let same : AllByRecursion (λ t. new.trees t ≡ old.trees t) second_trees =
-    others_are (λ t. new.trees t ≡ old.trees t) tree second_trees of_first (parts_of (λ t. t ≢ tree → new.trees t ≡ old.trees t) first_trees second_trees keeps).1 in
+    others_are (λ t. new.trees t ≡ old.trees t) tree second_trees of_first
+    (parts_of (λ t. t ≢ tree → new.trees t ≡ old.trees t) first_trees second_trees keeps).1 in
     record {
       is = same.0 ∙ was.is;
       says = (same.1.0 ∙ was.says.0, (same.1.1.0 ∙ was.says.1.0, (same.1.1.1.0 ∙ was.says.1.1.0, (same.1.1.1.1.0 ∙ was.says.1.1.1.0, tt))));
@@ -157,10 +163,13 @@ KeepsFirst old new = AllByRecursion (λ t. new.trees t ≡ old.trees t) first_tr
 
 -- the first round's tables are as they were, where the one that has changed is of the second
 pub first_kept : (tree : ℕ) (old new : Database) → IsOfSecond tree → Keeps tree old new → KeepsFirst old new
-first_kept tree old new of_second keeps = others_are (λ t. new.trees t ≡ old.trees t) tree first_trees of_second (parts_of (λ t. t ≢ tree → new.trees t ≡ old.trees t) first_trees second_trees keeps).0
+first_kept tree old new of_second keeps =
+    others_are (λ t. new.trees t ≡ old.trees t) tree first_trees of_second
+    (parts_of (λ t. t ≢ tree → new.trees t ≡ old.trees t) first_trees second_trees keeps).0
 
 pub first_then : (a b c : Database) → KeepsFirst a b → KeepsFirst b c → KeepsFirst a c
-first_then a b c p q = all_two (λ t. b.trees t ≡ a.trees t) (λ t. c.trees t ≡ b.trees t) (λ t. c.trees t ≡ a.trees t) (λ t x y. y ∙ x) first_trees p q
+first_then a b c p q = all_two (λ t. b.trees t ≡ a.trees t) (λ t. c.trees t ≡ b.trees t) (λ t. c.trees t ≡ a.trees t)
+    (λ t x y. y ∙ x) first_trees p q
 
 -- the first round is published still
 pub opened_kept : (old new : Trees) → new portal_tree ≡ old portal_tree → new second_tree ≡ old second_tree
@@ -193,4 +202,5 @@ pub holds_there : (tree : ℕ) (old new : Database) → IsOfSecond tree → IsCo
 holds_there tree old new of_second was keeps schema sound apart opened whole =
     let same = one_changed tree old new keeps in
     holds_second old new was (first_kept tree old new of_second keeps) schema sound (apart_kept tree old new keeps apart was.apart)
-    (opened_kept (but_one tree old new) new.trees same.0 same.1.1.1.1.1.1.0 opened) (whole_same Second (but_one tree old new) new.trees same whole)
+    (opened_kept (but_one tree old new) new.trees same.0 same.1.1.1.1.1.1.0 opened)
+    (whole_same Second (but_one tree old new) new.trees same whole)

@@ -5,7 +5,7 @@ use Rattle.portal_store.proofs.Base.{number_in, with_tree, First, Good, portal_t
 use Rattle.portal_store.proofs.Base.{first_version, IsFirstSchema, Upgrades, has_names, OfSecond, HasOffice}
 use Rattle.portal_store.proofs.Base.{number_of_phase, portal_row, apart_one, current_own, world_in, world_of}
 use Rattle.portal_store.proofs.Base.{phase_numbered, IsConsistentIn, IsUnopened, HasGoodWorld, HasGoodFirst, IsKept}
-use Rattle.portal_store.proofs.Base.{AdmitsAs, AllZip, first_schema, SameTable, HasFirstSchema, take, length, Upgraded}
+use Rattle.portal_store.proofs.Base.{AdmitsAs, AllZip, first_schema, SameTable, Upgraded}
 use Rattle.portal_store.proofs.Base.{has_name, stands_for_table, HasCleanDisk, IsConsistent, State, Survives, IsAfter}
 use Rattle.portal_store.proofs.Base.{clean_before, survives_then, IsUpgradedFrom, LeavesUpgraded, HasEntries}
 use Rattle.sqlite_trees.specs.Tree.{Trees}
@@ -26,7 +26,8 @@ use Rattle.portal_store.proofs.Asked.{apart_all}
 use Rattle.portal_store.proofs.Rounds.{world_told}
 use Rattle.portal_store.proofs.Still.{apart_among, one_among, whole_first, world_first}
 
-module _ (old new : Database) (office : HasOffice first_version (old.trees portal_tree)) (up : Upgraded (pos (number_of_phase office.phase)) office.office old new) where
+module _ (old new : Database) (office : HasOffice first_version (old.trees portal_tree))
+    (up : Upgraded (pos (number_of_phase office.phase)) office.office old new) where
   -- the first round's tables, with the new row of the office
   abbrev there : Trees
   there = with_tree old.trees portal_tree (new.trees portal_tree)
@@ -41,7 +42,8 @@ module _ (old new : Database) (office : HasOffice first_version (old.trees porta
       ap (λ rows. column (slice_index_or rows 0 []) 3) up.portal ∙ sym (ap (λ rows. column (slice_index_or rows 0 []) 3) office.is) in
       let codes : column (slice_index_or (new.trees 0) 0 []) 4 ≡ column (slice_index_or (old.trees 0) 0 []) 4 =
       ap (λ rows. column (slice_index_or rows 0 []) 4) up.portal ∙ sym (ap (λ rows. column (slice_index_or rows 0 []) 4) office.is) in
-      world_first there new.trees same ∙ (λ i. record (world_in First old.trees) { phase = phase_numbered (number_in (phases i)); office = bytes (codes i) })
+      world_first there new.trees same ∙ (λ i. record
+      (world_in First old.trees) { phase = phase_numbered (number_in (phases i)); office = bytes (codes i) })
 
   pub second : IsUnopened new.trees
   second = record { is = up.second; says = up.empty }
@@ -49,13 +51,16 @@ module _ (old new : Database) (office : HasOffice first_version (old.trees porta
   first_stands : HasGoodFirst first_version old.trees → HasGoodFirst version new.trees
   first_stands was = record {
     office = record { phase = office.phase; office = office.office; is = up.portal };
-    whole = whole_first there new.trees same (record { choices = was.whole.choices; rankings = was.whole.rankings; ranked = was.whole.ranked });
+    whole = whole_first there new.trees same
+        (record { choices = was.whole.choices; rankings = was.whole.rankings; ranked = was.whole.ranked });
     good = subst Good (sym upgraded_world) was.good;
   }
 
   admits : AdmitsAs first_version old.trees → AdmitsAs version new.trees
   admits was = record {
-    apart = apart_among first_trees portal_tree old.trees new.trees up.others (apart_one (new.trees 0) (portal_row (pos version) (pos (number_of_phase office.phase)) office.office) (pos 1) refl up.portal) was.apart;
+    apart = apart_among first_trees portal_tree old.trees new.trees up.others
+        (apart_one (new.trees 0) (portal_row (pos version) (pos (number_of_phase office.phase)) office.office)
+        (pos 1) refl up.portal) was.apart;
     stands = first_stands was.stands;
   }
 
@@ -94,7 +99,15 @@ module _ (old mid new : State) (looks : Survives old mid (λ _. ⊥)) (upgrades 
       → (IsFirstSchema old.now.schema → HasCleanDisk mid → mid.now ≡ old.now) → Survives old new (LeavesUpgraded old)
   leaves_upgraded free same =
       survives_then old mid new _ _ (LeavesUpgraded old) (λ clean db no. absurd no)
-      (λ clean db left. (free, (left.0, λ first. subst (λ (d : Database). Upgrades d left.0) (same first (clean_before mid new _ upgrades clean)) left.1 first, left.2))) looks upgrades
+      (λ clean db left. (
+        free,
+        (
+          left.0,
+          λ first. subst (λ (d : Database). Upgrades d left.0)
+              (same first (clean_before mid new _ upgrades clean)) left.1 first,
+          left.2,
+        ),
+      )) looks upgrades
 
   pub leaves_world : IsFirstSchema old.now.schema
       → (HasCleanDisk mid → (mid.now ≡ old.now) × AdmitsAs first_version old.now.trees)
@@ -116,19 +129,20 @@ is_named_view names v = has_name names v.name && stands_for_table v.name v.forei
 named_alike : (names : Names) (ts us : List Table) → AllZip SameTable ts us
     → list_any (is_named_table names) ts ≡ list_any (is_named_table names) us
 named_alike names [] [] h = refl
-named_alike names [] (u ∷ us) h = absurd h
-named_alike names (t ∷ ts) [] h = absurd h
 named_alike names (t ∷ ts) (u ∷ us) h = λ i. has_name names ((h.0 i).name) || named_alike names ts us h.1 i
+named_alike names ts us h = absurd h
 
 pub named_as : (names : Names) (s pattern : Schema) → SameSchema s pattern → has_names names s ≡ has_names names pattern
 named_as names s pattern h = λ i. named_alike names s.tables pattern.tables h.tables i || list_any (is_named_view names) (h.views i)
 
-none_computed : (list_any (named.is_named_table OfSecond) first_written.tables || list_any (named.is_named_view OfSecond) first_written.views) ≡ false
+none_computed : (list_any (named.is_named_table OfSecond) first_written.tables || list_any
+    (named.is_named_view OfSecond) first_written.views) ≡ false
 unfolding everything
 none_computed = refl
 
 pub first_untaken : (s : Schema) → IsFirstSchema s → has_names OfSecond s ≡ false
-first_untaken s h = named_as OfSecond s first_schema h ∙ ap (has_names OfSecond) first_as_written ∙ sym (named_is OfSecond first_written) ∙ none_computed
+first_untaken s h = named_as OfSecond s first_schema h ∙ ap (has_names OfSecond) first_as_written ∙ sym (named_is OfSecond first_written)
+    ∙ none_computed
 
 -- a store over them
 module _

@@ -13,7 +13,7 @@ use Rattle.portal_tables.specs.Making.{Creates, Upgrades, has_names}
 use Rattle.portal_tables.specs.declared.names.Names.TheVariants.{All, OfSecond}
 use Rattle.portal_tables.specs.Steps.{Commits, IsAfter, LeavesOnly, Stays}
 use Rattle.portal_store.specs.World.{first_world, world_in}
-use Rattle.portal_store.specs.Kept.{HasDisk, IsCleanStore, IsConsistent, IsTransition, Lasts, LeavesConsistent, Seen}
+use Rattle.portal_store.specs.Kept.{HasDisk, IsCleanStore, IsConsistent, IsTransition, Lasts, LeavesConsistent, StoreState}
 use Rattle.portal_store.specs.Kept.{kept_state, kept_world}
 use Rattle.portal_store.specs.Crash.{AfterCreating, AfterUpgrading, AreBarred, AreOpened, AreRefused, AreUpgraded}
 use Rattle.portal_store.specs.Crash.{IsLeft, IsUpgradedFrom, LeavesUpgraded}
@@ -26,7 +26,7 @@ use Rattle.portal_store.specs.declared.store.UpgradeFault.TheVariants as upgradi
 -- a store was made of the connection; `Own` says that its schema was as expected, and `After` which
 -- tables a crash may newly leave
 pub record MakesStore {S : Type 0} (g : Ghosts S) (Own : Type 0) (After : Trees → Type 0) (old : Held S)
-    (s : Seen S) : Type 0 where
+    (s : StoreState S) : Type 0 where
   -- the tables are the portal's own exactly in that case
   pub own : IsTrue s.own ↔ Own
   -- no fault is counted yet
@@ -52,7 +52,7 @@ pub record HandsBack {S : Type 0} (g : Ghosts S) (After : Trees → Type 0) (old
   pub crash : Survives (state g old) (state g new) After
 
 -- the portal's tables were made, with this office code
-pub record CreatesStore {S : Type 0} (g : Ghosts S) (office : Key) (old : Held S) (s : Seen S) : Type 0 where
+pub record CreatesStore {S : Type 0} (g : Ghosts S) (office : Key) (old : Held S) (s : StoreState S) : Type 0 where
   pub makes : MakesStore g (old.schema ≡ no_schema) (IsAfter (Creates office) (state g old)) old s
   -- no table had one of the eleven names
   pub free : has_names All old.schema ≡ false
@@ -73,7 +73,7 @@ pub record RefusesToCreate {S : Type 0} (g : Ghosts S) (office : Key) (fault : C
   pub untouched : fault ≡ creating.Exists → new ≡ old
 
 -- the portal's tables were opened
-pub record OpensStore {S : Type 0} (g : Ghosts S) (old : Held S) (s : Seen S) : Type 0 where
+pub record OpensStore {S : Type 0} (g : Ghosts S) (old : Held S) (s : StoreState S) : Type 0 where
   pub makes : MakesStore g (IsCurrentSchema old.schema) (λ _. ⊥) old s
   -- no tables were changed
   pub stays : HasDisk g s → IsTrue (state g s.conn).is_open → Stays (state g old) (state g s.conn)
@@ -89,7 +89,7 @@ pub record RefusesToOpen {S : Type 0} (g : Ghosts S) (fault : OpenFault) (old ne
   pub judged : HasCleanDisk (state g new) → AreRefused fault (state g old)
 
 -- tables of version 1 were upgraded to version 2
-pub record UpgradesStore {S : Type 0} (g : Ghosts S) (old : Held S) (s : Seen S) : Type 0 where
+pub record UpgradesStore {S : Type 0} (g : Ghosts S) (old : Held S) (s : StoreState S) : Type 0 where
   pub makes : MakesStore g (IsFirstSchema old.schema) (LeavesUpgraded (state g old)) old s
   -- no table had one of the five new names
   pub free : has_names OfSecond old.schema ≡ false
@@ -115,7 +115,7 @@ pub record RefusesToUpgrade {S : Type 0} (g : Ghosts S) (fault : UpgradeFault) (
   pub left : IsFirstSchema old.schema → Survives (state g old) (state g new) (IsUpgradedFrom (state g old).now.trees)
 
 -- what every call of a keeper leaves of a store
-pub record StaysStore {S : Type 0} (g : Ghosts S) (old new : Seen S) : Type 0 where
+pub record StaysStore {S : Type 0} (g : Ghosts S) (old new : StoreState S) : Type 0 where
   -- whether its tables were own when it was made
   pub own : new.own ≡ old.own
   -- a clean store stays clean unless the disk fails
@@ -123,7 +123,7 @@ pub record StaysStore {S : Type 0} (g : Ghosts S) (old new : Seen S) : Type 0 wh
 
 -- what a change does to own tables
 pub record ChangesTables {S V E : Type 0} (g : Ghosts S) (change : Change) (r : Result V E)
-    (old new : Seen S) : Type 0 where
+    (old new : StoreState S) : Type 0 where
   -- if it succeeds, it is made in one commit
   pub commits : IsTrue old.own → HasDisk g new
       → OnOk r (Commits (IsTransition change) (state g old.conn) (state g new.conn))

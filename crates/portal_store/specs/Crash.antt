@@ -5,7 +5,8 @@ use Rattle.portal_store.specs.Base.{HasFirstSchema}
 use Rattle.std.specs.List.{AllByRecursion}
 use Rattle.sqlite.specs.State.{State}
 use Rattle.sqlite.specs.declared.error.Error.{Error}
-use Rattle.portal_tables.specs.declared.list_table.Lists.TheVariants.{Choices, Rankings, SecondChoices, SecondRankings}
+use Rattle.portal_rules.specs.declared.phase.Round.TheVariants.{Second as InSecond}
+use Rattle.portal_tables.specs.declared.list_table.Lists.TheVariants.{Choices, Rankings}
 use Rattle.portal_tables.specs.declared.select.Query.{Query}
 use Rattle.portal_tables.specs.declared.select.Query.TheVariants.{AllLists, Office, Second, SecondPlacements}
 use Rattle.portal_tables.specs.declared.select.Query.TheVariants.{SecondRanked, Whole}
@@ -55,10 +56,11 @@ pub record ShowsOther (of : ℕ) (s : State) : Type 0 where
 -- the queries of the first round's tables, and of the second's, by which `open` and `upgrade` see
 -- whether tables can be queried
 abbrev pub first_queries : List Query
-first_queries = Office ∷ Whole Lecturers ∷ Whole Projects ∷ Whole Students ∷ AllLists Choices ∷ AllLists Rankings ∷ []
+first_queries = Office ∷ Whole Lecturers ∷ Whole Projects ∷ Whole Students ∷ AllLists (Choices First) ∷ AllLists (Rankings First) ∷ []
 
 abbrev pub later_queries : List Query
-later_queries = Second ∷ AllLists SecondChoices ∷ SecondRanked ∷ AllLists SecondRankings ∷ SecondPlacements ∷ []
+later_queries =
+    Second ∷ AllLists (Choices InSecond) ∷ SecondRanked ∷ AllLists (Rankings InSecond) ∷ SecondPlacements ∷ []
 
 -- the query is rejected, with an error that is not the store's
 pub record IsRejected (query : Query) (s : State) : Type 0 where
@@ -87,26 +89,26 @@ pub record Suits (Own : Type 0) (of : ℕ) (later : List Query) (s : State) : Ty
 
 -- what a refusal says of any tables that should suit so; a fault of the store or want of memory says
 -- nothing
-abbrev pub Explains : OpenFault → Type 0 → ℕ → List Query → State → Type 0
-Explains opening.NotPortal Own of later s =
+abbrev pub IsTrueOfQueries : OpenFault → Type 0 → ℕ → List Query → State → Type 0
+IsTrueOfQueries opening.NotPortal Own of later s =
     RefusesOne first_queries s
     ⊎ (Passes Own first_queries s × (ShowsOffice s [] ⊎ (ShowsVersion of s × RefusesOne later s)))
-Explains opening.OtherVersion Own of later s = Passes Own first_queries s × ShowsOther of s
-Explains opening.Damaged Own of later s = Suits Own of later s
-Explains opening.Store Own of later s = Unit {0}
-Explains opening.Memory Own of later s = Unit {0}
+IsTrueOfQueries opening.OtherVersion Own of later s = Passes Own first_queries s × ShowsOther of s
+IsTrueOfQueries opening.Damaged Own of later s = Suits Own of later s
+IsTrueOfQueries opening.Store Own of later s = Unit {0}
+IsTrueOfQueries opening.Memory Own of later s = Unit {0}
 
 -- what a refusal says of own tables that should have the schema version `of` and satisfy `so`
-abbrev pub RefusalSays : OpenFault → ℕ → Type 0 → Trees → Type 0
-RefusalSays opening.NotPortal of so db = db portal_tree ≡ []
-RefusalSays opening.OtherVersion of so db = HasOther of db
-RefusalSays opening.Damaged of so db = HasVersion of db × (so → ⊥)
-RefusalSays opening.Store of so db = Unit {0}
-RefusalSays opening.Memory of so db = Unit {0}
+abbrev pub IsTrueOfTables : OpenFault → ℕ → Type 0 → Trees → Type 0
+IsTrueOfTables opening.NotPortal of so db = db portal_tree ≡ []
+IsTrueOfTables opening.OtherVersion of so db = HasOther of db
+IsTrueOfTables opening.Damaged of so db = HasVersion of db × (so → ⊥)
+IsTrueOfTables opening.Store of so db = Unit {0}
+IsTrueOfTables opening.Memory of so db = Unit {0}
 
 -- what a refusal to open says; `Damaged` means that the tables hold no good world
-abbrev pub Refutes : OpenFault → Trees → Type 0
-Refutes fault db = RefusalSays fault version (HasGoodWorld db) db
+abbrev pub IsTrueOfOpening : OpenFault → Trees → Type 0
+IsTrueOfOpening fault db = IsTrueOfTables fault version (HasGoodWorld db) db
 
 -- a fault of opening tables of version 1, as a fault of upgrading them
 abbrev pub as_upgrading : OpenFault → UpgradeFault
@@ -117,10 +119,10 @@ as_upgrading opening.Store = upgrading.Store
 as_upgrading opening.Memory = upgrading.Memory
 
 -- the same of an upgrade, by the rules of version 1; the tables alone give no cause for `Exists`
-abbrev pub Bars : UpgradeFault → Trees → Type 0
-Bars fault db =
+abbrev pub IsTrueOfUpgrading : UpgradeFault → Trees → Type 0
+IsTrueOfUpgrading fault db =
     (found : OpenFault) × (fault ≡ as_upgrading found)
-    × RefusalSays found first_version (HasGoodFirst first_version db) db
+    × IsTrueOfTables found first_version (HasGoodFirst first_version db) db
 
 -- tables that were opened, as a connection showed them before
 pub record AreOpened (s : State) : Type 0 where
@@ -134,9 +136,9 @@ pub record AreOpened (s : State) : Type 0 where
 -- tables that were not, for this fault
 pub record AreRefused (fault : OpenFault) (s : State) : Type 0 where
   -- of any tables, it tells what the eleven queries show, or that one is refused
-  pub explained : Explains fault (IsCurrentSchema s.now.schema) version later_queries s
+  pub explained : IsTrueOfQueries fault (IsCurrentSchema s.now.schema) version later_queries s
   -- it tells why own ones were refused
-  pub refuted : IsCurrentSchema s.now.schema → Refutes fault s.now.trees
+  pub refuted : IsCurrentSchema s.now.schema → IsTrueOfOpening fault s.now.trees
 
 -- tables such as an upgrade looks for, as a connection showed them before
 pub record AreFirst (s : State) : Type 0 where
@@ -154,9 +156,9 @@ pub record AreUpgraded (s : State) : Type 0 where
 pub record AreBarred (fault : UpgradeFault) (s : State) : Type 0 where
   -- of any tables, a fault of opening tells what the first six queries show, or that one is refused
   pub explained : (found : OpenFault) → fault ≡ as_upgrading found
-      → Explains found (IsFirstSchema s.now.schema) first_version [] s
+      → IsTrueOfQueries found (IsFirstSchema s.now.schema) first_version [] s
   -- it tells why own ones were refused
-  pub barred : IsFirstSchema s.now.schema → Bars fault s.now.trees
+  pub barred : IsFirstSchema s.now.schema → IsTrueOfUpgrading fault s.now.trees
   -- after `Damaged`, the first six, if they are the portal's, stand for no good world
   pub damaged : fault ≡ upgrading.Damaged → HasFirstSchema s.now.schema → HasGoodFirst first_version s.now.trees → ⊥
   -- `Exists` means that they are such as it looks for, and a table or view has one of the five new names
@@ -193,13 +195,13 @@ pub record IsUpgradedFrom (first db : Trees) : Type 0 where
 pub record Reopens (found : Database) : Type 0 where
   pub current : IsCurrentSchema found.schema
   pub stands : HasGoodWorld found.trees
-  pub faults : (fault : OpenFault) → Refutes fault found.trees → (fault ≡ opening.Store) ⊎ (fault ≡ opening.Memory)
+  pub faults : (fault : OpenFault) → IsTrueOfOpening fault found.trees → (fault ≡ opening.Store) ⊎ (fault ≡ opening.Memory)
 
 -- version 1 with a good world; an upgrade fails only for a fault of the store or want of memory
 pub record UpgradesYet (found : Database) : Type 0 where
   pub first : IsFirstSchema found.schema
   pub stands : HasGoodFirst first_version found.trees
-  pub faults : (fault : UpgradeFault) → Bars fault found.trees → (fault ≡ upgrading.Store) ⊎ (fault ≡ upgrading.Memory)
+  pub faults : (fault : UpgradeFault) → IsTrueOfUpgrading fault found.trees → (fault ≡ upgrading.Store) ⊎ (fault ≡ upgrading.Memory)
 
 -- after a crash in a change, the store opens with the world before or after it
 abbrev pub OpensAgain : Type 0

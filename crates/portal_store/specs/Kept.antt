@@ -87,13 +87,13 @@ IsTransition change old new =
     → HasChanged change old new
 
 -- the state of a store; `own` says that the tables are the portal's, `faults` counts store faults
-pub record Seen (S : Type 0) : Type 0 where
+pub record StoreState (S : Type 0) : Type 0 where
   pub conn : Held S
   pub own : Bool
   pub faults : ℕ
 
 -- the tables are the portal's own, and the connection is open, so that it shows what the disk has
-abbrev pub IsCleanStore : {S : Type 0} → Ghosts S → Seen S → Type 0
+abbrev pub IsCleanStore : {S : Type 0} → Ghosts S → StoreState S → Type 0
 IsCleanStore g s = IsTrue s.own × IsTrue (state g s.conn).is_open
 
 -- the disk has failed once more; the count of its failures stops at the greatest `u64`
@@ -101,29 +101,29 @@ abbrev pub HasFailed : State → State → Type 0
 HasFailed old new = min (old.faults + 1) (2 ^ 64 - 1) ≤ new.faults
 
 -- a clean store stays clean, if the disk returns what was written and does not fail
-abbrev pub Lasts : {S : Type 0} → Ghosts S → Seen S → Seen S → Type 0
+abbrev pub Lasts : {S : Type 0} → Ghosts S → StoreState S → StoreState S → Type 0
 Lasts g old new =
     HasCleanDisk (state g new.conn) → IsCleanStore g old → IsCleanStore g new
     ⊎ HasFailed (state g old.conn) (state g new.conn)
 
-abbrev pub kept_world : {S : Type 0} → Ghosts S → Seen S → World
+abbrev pub kept_world : {S : Type 0} → Ghosts S → StoreState S → World
 kept_world g s = world_of (state g s.conn).now.trees
 
 -- a clean store in memory stays clean, since there is no disk that could fail
 abbrev pub LastsInMemory : Type 0
 LastsInMemory =
-    (old new : Seen MemStore) → Lasts over_memory old new → IsCleanStore over_memory old → IsCleanStore over_memory new
+    (old new : StoreState MemStore) → Lasts over_memory old new → IsCleanStore over_memory old → IsCleanStore over_memory new
 
 -- the disk of a store has returned what was written so far
-abbrev pub HasDisk : {S : Type 0} → Ghosts S → Seen S → Type 0
+abbrev pub HasDisk : {S : Type 0} → Ghosts S → StoreState S → Type 0
 HasDisk g s = HasCleanDisk (state g s.conn)
 
 -- the disk of a store in memory is always clean, since there is none
 abbrev pub DiskInMemory : Type 0
-DiskInMemory = (s : Seen MemStore) → HasDisk over_memory s
+DiskInMemory = (s : StoreState MemStore) → HasDisk over_memory s
 
 -- the disk has failed, and the connection to the portal's own tables is shut
-pub record IsBrokenStore {S : Type 0} (g : Ghosts S) (s : Seen S) : Type 0 where
+pub record IsBrokenStore {S : Type 0} (g : Ghosts S) (s : StoreState S) : Type 0 where
   pub own : IsTrue s.own
   pub shut : (state g s.conn).is_open ≡ false
   pub failed : 1 ≤ (state g s.conn).faults
@@ -133,18 +133,18 @@ abbrev pub AreConsistent : Trees → Type 0
 AreConsistent db = (d : Database) × (db ≡ d.trees) × IsConsistent d
 
 -- whatever a stop may leave of the portal's own database is consistent
-abbrev pub LeavesConsistent : {S : Type 0} → Ghosts S → Seen S → Type 0
+abbrev pub LeavesConsistent : {S : Type 0} → Ghosts S → StoreState S → Type 0
 LeavesConsistent g s = IsTrue s.own → HasDisk g s → (db : Trees) → (state g s.conn).may_leave db → AreConsistent db
 
 -- a stop may leave the tables of this world in the portal's own database
-pub record LeavesWorld {S : Type 0} (g : Ghosts S) (s : Seen S) (w : World) : Type 0 where
+pub record LeavesWorld {S : Type 0} (g : Ghosts S) (s : StoreState S) (w : World) : Type 0 where
   pub own : IsTrue s.own
   pub db : Trees
   pub left : (state g s.conn).may_leave db
   pub world : w ≡ world_of db
 
 -- what contracts of keepers say of a store
-abbrev pub kept_state : {S : Type 0} → Ghosts S → Seen S → KeeperState
+abbrev pub kept_state : {S : Type 0} → Ghosts S → StoreState S → KeeperState
 kept_state g s = record {
   world = kept_world g s;
   clean = IsCleanStore g s;
@@ -156,4 +156,4 @@ kept_state g s = record {
 
 -- a store in memory never breaks, since there is no disk that could fail
 abbrev pub UnbrokenInMemory : Type 0
-UnbrokenInMemory = (s : Seen MemStore) → IsBrokenStore over_memory s → ⊥
+UnbrokenInMemory = (s : StoreState MemStore) → IsBrokenStore over_memory s → ⊥

@@ -9,3 +9,4 @@ pub mod Putting
 pub mod Reading
 pub mod Queried
 pub mod Upgrading
+pub mod ViewCache

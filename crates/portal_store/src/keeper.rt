@@ -11,11 +11,11 @@ ghost use Rattle.portal_tables.specs.Tables.{IsCurrentSchema};
 ghost use Rattle.portal_store.specs.Calls.{ChangesTables, StaysStore};
 ghost use Rattle.portal_store.specs.Kept.{IsCleanStore, kept_state, kept_world};
 
-use crate::change::commit_change;
-use crate::entries::{follow, instance_in, instance_of};
+use crate::changing::change::commit_change;
 use crate::fault::{count_fault, count_outcome};
-use crate::queries::show;
-use crate::round::office_code;
+use crate::reading::entries::{follow, instance_in, instance_of};
+use crate::reading::queries::show;
+use crate::reading::round::office_code;
 use crate::store::Store;
 use portal_rules::{Change, Code, KeepFault, Keeper, View};
 use portal_tables::TableFault;

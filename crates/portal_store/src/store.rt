@@ -4,8 +4,8 @@ ghost use Rattle.std.specs.Prelude.{◌≡◌, false};
 ghost use Rattle.sqlite.specs.Held.{state};
 ghost use Rattle.portal_store.specs.Kept.{IsCleanStore, IsConsistent, LeavesConsistent};
 
+use crate::reading::view_cache::ViewCache;
 use portal_list::Entries;
-use portal_rules::ViewCache;
 use portal_tables::PortalSchema;
 use sqlite::{Alter, Connection};
 use std::marker::Model;
@@ -31,10 +31,10 @@ pub struct Store<S: Alter> {
 }
 
 impl<S: Alter> Model for Store<S> {
-    ghost use Rattle.portal_store.specs.Kept.{Seen};
+    ghost use Rattle.portal_store.specs.Kept.{StoreState};
     ghost use Rattle.portal_store.specs.inner.Keeping.{seen_code, IsAtRest};
 
-    ghost Value = { Seen S };
+    ghost Value = { StoreState S };
 
     ghost coded = { seen_code S.code };
 

@@ -2,7 +2,8 @@
 use Rattle.portal_tables.proofs.Base.{sym, subst, ◌∙◌, Database, State, HasCleanDisk, IsUnchanged, Commits, IsCommitted}
 
 -- nothing was done
-module _ (old mid new : State) (C D : Database → Database → Type 0) (more : HasCleanDisk mid → (after : Database) → C old.now after → D old.now after) where
+module _ (old mid new : State) (C D : Database → Database → Type 0)
+    (more : HasCleanDisk mid → (after : Database) → C old.now after → D old.now after) where
   pub commits_asked : HasCleanDisk mid → IsUnchanged old mid → Commits C mid new → Commits D old new
   commits_asked clean same done = record {
     was_open = same.0.was_open;

@@ -53,12 +53,14 @@ module _ (key : List ℕ) (project : Option (List ℕ)) where
   but r v = column r 0 ∷ column r 1 ∷ column r 2 ∷ column r 3 ∷ v ∷ []
 
   row_cast : (o : Option (List ℕ)) (n : ℤ) (k name code : List ℕ)
-      → cast_row (student_schema 6) (Int n ∷ Text k ∷ Text name ∷ Text code ∷ text_or_null_cell o ∷ []) ≡ Int n ∷ Text k ∷ Text name ∷ Text code ∷ text_or_null_cell o ∷ []
+      → cast_row (student_schema 6) (Int n ∷ Text k ∷ Text name ∷ Text code ∷ text_or_null_cell o ∷ [])
+      ≡ Int n ∷ Text k ∷ Text name ∷ Text code ∷ text_or_null_cell o ∷ []
   row_cast None n k name code = rw (cast_int n) refl
   row_cast (Some t) n k name code = rw (cast_int n) refl
 
   row_is : (r : Row) → IsStudentRow r → written r ≡ but r (text_or_null_cell project)
-  row_is r f = subst (λ y. cast_row (student_schema 6) (but y (text_or_null_cell project)) ≡ but y (text_or_null_cell project)) (sym f.is) (row_cast project f.number f.key f.name f.code)
+  row_is r f = subst (λ y. cast_row (student_schema 6) (but y (text_or_null_cell project)) ≡ but y (text_or_null_cell project)) (sym f.is)
+      (row_cast project f.number f.key f.name f.code)
 
   numbered : (r : Row) → IsStudentRow r → HasNumber (written r)
   numbered r f = subst HasNumber (sym (row_is r f)) (subst (λ y. HasNumber (column y 0 ∷ [])) (sym f.is) refl)
@@ -71,13 +73,16 @@ module _ (key : List ℕ) (project : Option (List ℕ)) where
   missed r f = ap (λ b. but r (cond b (text_or_null_cell project) (column r 4))) (not_true (is_hit r) f.1)
 
   halves : (rows : List Row) → AllByRecursion IsStudentRow rows
-      → map made (filter is_hit rows ++ filter is_missed rows) ≡ map student_columns (map written (filter is_hit rows) ++ filter is_missed rows)
+      → map made (filter is_hit rows ++ filter is_missed rows)
+      ≡ map student_columns (map written (filter is_hit rows) ++ filter is_missed rows)
   halves rows formed =
       let hits = filter is_hit rows in
       let others = filter is_missed rows in
       let those : map made hits ≡ map student_columns (map written hits) =
-      all_map_on _ made (λ r. student_columns (written r)) hits (sifted IsStudentRow is_hit rows formed) hit ∙ map_twice student_columns written hits in
-      map-append made hits others ∙ ap₂ (λ a b. a ++ b) those (all_map_on _ made student_columns others (sifted IsStudentRow is_missed rows formed) missed)
+      all_map_on _ made (λ r. student_columns (written r)) hits (sifted IsStudentRow is_hit rows formed) hit
+      ∙ map_twice student_columns written hits in
+      map-append made hits others ∙ ap₂ (λ a b. a ++ b) those
+      (all_map_on _ made student_columns others (sifted IsStudentRow is_missed rows formed) missed)
       ∙ sym (map-append student_columns (map written hits) others)
 
   pub one_assigned : (old new : State) → Ran update_one params old new → Made (Assigns ((key, project) ∷ [])) old new
@@ -90,7 +95,8 @@ module _ (key : List ℕ) (project : Option (List ℕ)) where
         let rows = old.now.trees 6 in
         let formed = student_rows_formed old.now (current_own old.now.schema own) sound apart in
         let p = passes (has_key 1) params in
-        let numbers = all_map HasNumber written (filter p rows) (all_weaker IsStudentRow (λ r. HasNumber (written r)) numbered (filter p rows) (all-filter IsStudentRow p rows formed)) in
+        let numbers = all_map HasNumber written (filter p rows)
+        (all_weaker IsStudentRow (λ r. HasNumber (written r)) numbered (filter p rows) (all-filter IsStudentRow p rows formed)) in
         let a = subst (λ q. AltersIn s 6 q written old.now new.now) (same_key_of 1 key (text_or_null_cell project ∷ []))
         (altered s update_one 3 _ 6 _ _ _ _ _ _ _ _ refl (has_key 1) with_last refl (refl, refl) (no_acts w.o.checks w.o.terms student_tree)
         params old new h.count w.is apart numbers h.runs) in
@@ -98,7 +104,9 @@ module _ (key : List ℕ) (project : Option (List ℕ)) where
           schema_is = a.schema_is ∙ sym w.is;
           apart = a.apart;
           rows = IsPermutation-trans _ _ _
-              (subst (IsPermutation (map made rows)) (halves rows formed) (IsPermutation-map made rows (filter is_hit rows ++ filter is_missed rows) (IsPermutation-filter_both is_hit is_missed (λ r. refl) rows)))
+              (subst (IsPermutation (map made rows)) (halves rows formed)
+              (IsPermutation-map made rows (filter is_hit rows ++ filter is_missed rows)
+              (IsPermutation-filter_both is_hit is_missed (λ r. refl) rows)))
               (IsPermutation-map student_columns (map written (filter is_hit rows) ++ filter is_missed rows) (new.now.trees 6) a.rows);
           others = a.others;
           sound = a.sound;
@@ -126,7 +134,8 @@ assigns_then all x a b c first later own sound apart =
     record {
       schema_is = q.schema_is ∙ p.schema_is;
       apart = q.apart;
-      rows = IsPermutation-trans _ _ _ (subst₂ IsPermutation both (sym (map_twice last student_columns (b.trees student_tree))) (IsPermutation-map last _ _ p.rows)) q.rows;
+      rows = IsPermutation-trans _ _ _ (subst₂ IsPermutation both (sym (map_twice last student_columns (b.trees student_tree)))
+          (IsPermutation-map last _ _ p.rows)) q.rows;
       others = keeps_then student_tree a b c p.others q.others;
       sound = q.sound;
     }
@@ -134,4 +143,5 @@ assigns_then all x a b c first later own sound apart =
 -- a loop's turn: the student at i
 pub assigns_next : (all : List Assigned) (i : ℕ) (x : Assigned) (a b c : Database) → i < length all → x ≡ get_or all i x
     → Assigns (take i all) a b → Assigns (x ∷ []) b c → Assigns (take (i + 1) all) a c
-assigns_next all i x a b c within is was more = subst (λ l. Assigns l a c) (sym (next_item all i x is within)) (assigns_then (take i all) x a b c was more)
+assigns_next all i x a b c within is was more =
+    subst (λ l. Assigns l a c) (sym (next_item all i x is within)) (assigns_then (take i all) x a b c was more)

@@ -31,7 +31,7 @@ pub use Rattle.std.specs.Cmp.Lexicographic.{texts_ties}
 pub use Rattle.std.specs.List.{cons_option, list_all}
 pub use Rattle.std.specs.Ordering.{is_gt, match_ordering, ordering_reverse, ordering_then}
 pub use Rattle.std.specs.Prelude.{IfSome, if◌then◌else◌, is_some, option_copied, ◌&&◌, ◌++◌, ◌+◌, ◌<◌, ◌==◌, ◌||◌, ◌∷◌}
-pub use Rattle.std.specs.Prelude.{◌≡◌, ◌≢◌, ◌≤◌, ◌⊎◌, ◌<ℤ◌, MatchResult, ◌↔◌}
+pub use Rattle.std.specs.Prelude.{◌≡◌, ◌≢◌, ◌≤◌, ◌⊎◌, ◌<ℤ◌, MatchResult, ◌↔◌, fold}
 pub use Rattle.std.specs.Result.{IsErr, IsErrAnd}
 pub use Rattle.std.specs.declared.cmp.Ordering.{Ordering}
 pub use Rattle.std.specs.declared.cmp.Ordering.TheVariants.{Equal, Greater, Less}
@@ -50,13 +50,12 @@ pub use Rattle.portal_tables.specs.Tables.{tree_of, IsCurrentSchema, IsFirstSche
 pub use Rattle.portal_tables.specs.Tables.{SameTable, assigned2_tree, choice2_tree, choice_tree, first_texts}
 pub use Rattle.portal_tables.specs.Tables.{first_trees, first_version, later_trees, lecturer_tree, no_schema, own_trees}
 pub use Rattle.portal_tables.specs.Tables.{portal_tree, project_tree, ranked2_tree, ranking2_tree, ranking_tree}
-pub use Rattle.portal_tables.specs.Tables.{second_texts, second_tree, student_tree, version}
+pub use Rattle.portal_tables.specs.Tables.{second_texts, second_tree, student_tree, version, names}
 pub use Rattle.portal_tables.specs.declared.fault.TableFault.{TableFault}
 pub use Rattle.portal_tables.specs.declared.fault.TableFault.TheVariants.{Damaged, Memory}
 pub use Rattle.portal_tables.specs.declared.insert.lists.NewPlace.{NewPlace}
 pub use Rattle.portal_tables.specs.declared.list_table.Lists.{Lists}
-pub use Rattle.portal_tables.specs.declared.list_table.Lists.TheVariants.{Choices, Rankings, SecondChoices}
-pub use Rattle.portal_tables.specs.declared.list_table.Lists.TheVariants.{SecondRankings}
+pub use Rattle.portal_tables.specs.declared.list_table.Lists.TheVariants.{Choices, Rankings}
 pub use Rattle.portal_tables.specs.declared.select.Query.TheVariants.{AllLists, Choosers, LecturerByCode, LecturerByKey}
 pub use Rattle.portal_tables.specs.declared.select.Query.TheVariants.{ListOf, Listed, Numbers, ProjectsOf}
 pub use Rattle.portal_tables.specs.declared.select.Query.TheVariants.{SecondPlaceOf, SecondRankedBy, StudentByCode}
@@ -81,7 +80,8 @@ pub use Rattle.portal_tables.specs.inner.Changes.{has_number, with_rows}
 pub use Rattle.portal_tables.specs.inner.Decoding.{FindsAny, FindsRow, IsPlainIfAny, Leaves, ReadsEach, ShowsAs}
 pub use Rattle.portal_tables.specs.inner.Decoding.{Refuses}
 pub use Rattle.portal_tables.specs.inner.MakingSteps.{Grown, Grows, Makes, MakesFirst, MakesSecond, second_trees}
-pub use Rattle.portal_tables.specs.inner.MakingSteps.{with_second}
+pub use Rattle.portal_tables.specs.inner.MakingSteps.{with_second, IsCreateTable, Defines, MakesOne, MakesEach}
+pub use Rattle.portal_tables.specs.inner.MakingSteps.{first_tables, second_tables}
 pub use Rattle.portal_tables.specs.inner.Owners.{IsRead, entry, list_in_order, with_list, AreEntriesOf, IsFine}
 pub use Rattle.portal_tables.specs.inner.Owners.{IsListOf}
 pub use Rattle.portal_tables.specs.inner.Placements.{pair_shown, placed_project, first_pair, HasPairKeys}
@@ -89,28 +89,24 @@ pub use Rattle.portal_tables.specs.inner.Placements.{HasPlacementAsked}
 pub use Rattle.portal_tables.specs.inner.Putting.{PutsList, PutsPlacements, RanksSecond, list_cells, numbered, placed}
 pub use Rattle.portal_tables.specs.inner.Queries.{columns_of, roll_tree, round_asked, selection, table_round}
 pub use Rattle.portal_tables.specs.inner.Queries.{table_tree}
-pub use Rattle.portal_tables.specs.QueryTexts.{given, query_text, names, choice2_names, choice_names, ranking2_names}
-pub use Rattle.portal_tables.specs.QueryTexts.{ranking_names}
+pub use Rattle.portal_tables.specs.QueryTexts.{given, query_text}
 pub use Rattle.portal_tables.specs.Reads.{IfOpen, Always, Blames, IsCommitted, IsUnchangedOrUndone, OnlyLooks}
 pub use Rattle.portal_tables.specs.Reads.{Reading, Anyhow, Gives, HasRound}
 pub use Rattle.portal_tables.specs.inner.Rising.{is_above, rises}
 pub use Rattle.portal_tables.specs.inner.Rolls.{by_key}
 pub use Rattle.portal_tables.specs.inner.RowChanges.{IsOffice, IsSecond, Adds, AddsBy, Assigned, Assigns, portal_cells}
-pub use Rattle.portal_tables.specs.inner.RowChanges.{second_cells, Clears, IsOfVersion, MovesSecond, MovesTo}
+pub use Rattle.portal_tables.specs.inner.RowChanges.{second_cells, Clears, IsOfVersion, MovesTo}
 pub use Rattle.portal_tables.specs.inner.RowChanges.{MarksRanked}
 pub use Rattle.portal_tables.specs.inner.RowChanges.{assigned_by, lecturer_cells, lecturer_new, lecturer_values}
 pub use Rattle.portal_tables.specs.inner.RowChanges.{pair_new, place_cells, place_new, project_new, student_new}
 pub use Rattle.portal_tables.specs.inner.RowChanges.{student_columns, student_values, text_or_null_cell, with_assigned}
 pub use Rattle.portal_tables.specs.Running.{Does, GoesOn, Made, Ran}
-pub use Rattle.portal_tables.specs.inner.Schema.{assigned2, choice, choice2, column_of}
+pub use Rattle.portal_tables.specs.inner.Schema.{assigned2, column_of}
 pub use Rattle.portal_tables.specs.inner.Schema.{first_written, lecturer_schema, list_table, portal, portal_written}
-pub use Rattle.portal_tables.specs.inner.Schema.{project_schema, ranked2, ranking, ranking2, schema_of}
+pub use Rattle.portal_tables.specs.inner.Schema.{project_schema, ranked2, schema_of}
 pub use Rattle.portal_tables.specs.inner.Schema.{second, student_schema}
 pub use Rattle.portal_tables.specs.inner.Shown.{as_list, first_cell, shown_name, shown_rank, shown_student}
-pub use Rattle.portal_tables.specs.inner.Texts.{add_eight_text, add_text, clear_text, place_among, round_of}
-pub use Rattle.portal_tables.specs.inner.Texts.{assigned2_text, choice2_text, choice_text, lecturer_text, portal_text}
-pub use Rattle.portal_tables.specs.inner.Texts.{project_text, ranked2_text, ranking2_text, ranking_text, second_text}
-pub use Rattle.portal_tables.specs.inner.Texts.{student_text}
+pub use Rattle.portal_tables.specs.inner.Texts.{add_eight_text, add_text, clear_text, phase_text, place_among, round_of}
 pub use Rattle.sqlite.proofs.Callers.{EndsIn, IsPlain, begins_shown, command_of, given_begin}
 pub use Rattle.sqlite.proofs.Callers.{memory_is_clean, one_permutation, one_step, reads_as, runs_as, statement_of}
 pub use Rattle.sqlite.proofs.Callers.{survives_begin, unchanged_then}
@@ -118,7 +114,6 @@ pub use Rattle.sqlite.proofs.InsideLemmas.{keeps_then as kept_then}
 pub use Rattle.sqlite.proofs.StateLemmas.{survives_then, survives_weaker, unchanged}
 pub use Rattle.sqlite.proofs.StreamLemmas.{rolled_back_since}
 pub use Rattle.sqlite.specs.Cast.{cast, cast_row}
-pub use Rattle.sqlite.specs.Change.{next_tree}
 pub use Rattle.sqlite.specs.Clock.{timed}
 pub use Rattle.sqlite.specs.Command.TheVariants.{CreateTable, Delete, Insert, Select, Update}
 pub use Rattle.sqlite.specs.Compile.{table_defined_by}

@@ -53,17 +53,27 @@ zip_weaker P Q f (t ∷ ts) (u ∷ us) h = (f t u h.0, zip_weaker P Q f ts us h.
 
 same_schema : (s pattern : Schema) → pattern.views ≡ [] → HasParts s pattern.tables pattern.indexes
     → SameSchema s pattern
-same_schema s pattern none h = record { tables = zip_weaker SameParts SameTable same_by s.tables pattern.tables h.like; indexes = h.indexed; views = h.no_views ∙ sym none }
+same_schema s pattern none h = record {
+  tables = zip_weaker SameParts SameTable same_by s.tables pattern.tables h.like;
+  indexes = h.indexed;
+  views = h.no_views ∙ sym none;
+}
 
 has_parts : (s pattern : Schema) → pattern.views ≡ [] → SameSchema s pattern → HasParts s pattern.tables pattern.indexes
-has_parts s pattern none h = record { like = zip_weaker SameTable SameParts parts_of s.tables pattern.tables h.tables; indexed = h.indexes; no_views = h.views ∙ none }
+has_parts s pattern none h = record {
+  like = zip_weaker SameTable SameParts parts_of s.tables pattern.tables h.tables;
+  indexed = h.indexes;
+  no_views = h.views ∙ none;
+}
 
 -- all tables are compared
 pub fits_current : (b : Bool) (all s : Schema) → all ≡ portal_schema → (IsTrue b ↔ HasParts s all.tables all.indexes)
     → IsTrue b ↔ IsCurrentSchema s
 fits_current b all s is fits =
-    let none : all.views ≡ [] = ap (λ (a : Schema). a.views) (is ∙ portal_as_written) in
-    (λ fit. subst (SameSchema s) is (same_schema s all none (fits.0 fit)), λ own. fits.1 (has_parts s all none (subst (SameSchema s) (sym is) own)))
+    let none : all.views ≡ [] = ap (λ (a : Schema). a.views) (is ∙ portal_as_written) in (
+      λ fit. subst (SameSchema s) is (same_schema s all none (fits.0 fit)),
+      λ own. fits.1 (has_parts s all none (subst (SameSchema s) (sym is) own)),
+    )
 
 pub fits_own : (b : Bool) (all s : Schema) → all ≡ portal_schema → (IsTrue b ↔ HasParts s all.tables all.indexes)
     → IsTrue b → HasFirstSchema s
@@ -73,8 +83,10 @@ fits_own b all s is fits fit = current_own s ((fits_current b all s is fits).0 f
 pub fits_first : (b : Bool) (all s : Schema) → all ≡ portal_schema
     → (IsTrue b ↔ HasParts s (take 6 all.tables) (take 9 all.indexes)) → IsTrue b ↔ IsFirstSchema s
 fits_first b all s is fits =
-    let tables : take 6 all.tables ≡ first_schema.tables = ap (λ (a : Schema). take 6 a.tables) (is ∙ portal_as_written) ∙ ap (λ (a : Schema). a.tables) (sym first_as_written) in
-    let indexes : take 9 all.indexes ≡ first_schema.indexes = ap (λ (a : Schema). take 9 a.indexes) (is ∙ portal_as_written) ∙ ap (λ (a : Schema). a.indexes) (sym first_as_written) in
+    let tables : take 6 all.tables ≡ first_schema.tables = ap (λ (a : Schema). take 6 a.tables) (is ∙ portal_as_written)
+    ∙ ap (λ (a : Schema). a.tables) (sym first_as_written) in
+    let indexes : take 9 all.indexes ≡ first_schema.indexes = ap (λ (a : Schema). take 9 a.indexes) (is ∙ portal_as_written)
+    ∙ ap (λ (a : Schema). a.indexes) (sym first_as_written) in
     let none : first_schema.views ≡ [] = ap (λ (a : Schema). a.views) first_as_written in (
       λ fit. same_schema s first_schema none (subst₂ (HasParts s) tables indexes (fits.0 fit)),
       λ own. fits.1 (subst₂ (HasParts s) (sym tables) (sym indexes) (has_parts s first_schema none own)),
@@ -86,7 +98,9 @@ fits_first_own b all s is fits fit = first_own s ((fits_first b all s is fits).0
 
 -- so many are there
 pub six_tables : (ts : List Table) (all : Schema) → all ≡ portal_schema → ts ≡ all.tables → 6 ≡ length (take 6 ts)
-six_tables ts all is are = ap (λ (a : Schema). length (take 6 a.tables)) (sym (is ∙ portal_as_written)) ∙ ap (λ us. length (take 6 us)) (sym are)
+six_tables ts all is are = ap (λ (a : Schema). length (take 6 a.tables)) (sym (is ∙ portal_as_written))
+    ∙ ap (λ us. length (take 6 us)) (sym are)
 
 pub nine_indexes : (ts : List Index) (all : Schema) → all ≡ portal_schema → ts ≡ all.indexes → 9 ≡ length (take 9 ts)
-nine_indexes ts all is are = ap (λ (a : Schema). length (take 9 a.indexes)) (sym (is ∙ portal_as_written)) ∙ ap (λ us. length (take 9 us)) (sym are)
+nine_indexes ts all is are = ap (λ (a : Schema). length (take 9 a.indexes)) (sym (is ∙ portal_as_written))
+    ∙ ap (λ us. length (take 9 us)) (sym are)

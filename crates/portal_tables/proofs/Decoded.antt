@@ -45,21 +45,34 @@ shown_before sql params a b c rows plain m h =
     let full = timed params h.0.formats h.1.now in
     let it = subst (ShowsRows b c sql h.0 full rows) none h.2 in (
       h.0,
-      record { is = subst (λ (d : Database). understood d.schema sql ≡ Ok h.0) m.0.now_is h.1.is; whole = h.1.whole; given = h.1.given; now = h.1.now },
-      subst (ShowsRows a c sql h.0 full rows) (sym none) (it.0, subst (λ (d : Database). IsSourceOf (reads_listing d.schema sql) d it.0) m.0.now_is it.1, it.2, unchanged_then a b c m it.3),
+      record {
+        is = subst (λ (d : Database). understood d.schema sql ≡ Ok h.0) m.0.now_is h.1.is;
+        whole = h.1.whole;
+        given = h.1.given;
+        now = h.1.now;
+      },
+      subst (ShowsRows a c sql h.0 full rows) (sym none) (
+        it.0,
+        subst (λ (d : Database). IsSourceOf (reads_listing d.schema sql) d it.0) m.0.now_is it.1,
+        it.2,
+        unchanged_then a b c m it.3,
+      ),
     )
 
 -- a query that does not begin
-module _ {S X : Type 0} (g : Ghosts S) (sql : List ℕ) (params : Row) (old new : Held S) (r : Result X Error) (e : Error) (is : r ≡ Err e) (refused : OnErr r (IsRefused g sql params old r new)) where
+module _ {S X : Type 0} (g : Ghosts S) (sql : List ℕ) (params : Row) (old new : Held S) (r : Result X Error) (e : Error) (is : r ≡ Err e)
+    (refused : OnErr r (IsRefused g sql params old r new)) where
   it : IsRefused g sql params old r new
   it = IfErr-at_err (λ _. IsRefused g sql params old r new) is refused
 
   refused_leaves : IsPlainIfAny (understood old.schema sql) → HasCleanDisk (state g new)
       → IsUnchangedOrUndone (state g old) (state g new)
-  refused_leaves plain clean = failed_leaves sql params (state g old) (state g new) e plain (IfErr-at_err (FailsToQuery sql params (state g old) (state g new)) is (it.err clean))
+  refused_leaves plain clean = failed_leaves sql params (state g old) (state g new) e plain
+      (IfErr-at_err (FailsToQuery sql params (state g old) (state g new)) is (it.err clean))
 
   refused_survives : Survives (state g old) (state g new) (λ _. IsPlainIfAny (understood old.schema sql) → ⊥)
-  refused_survives = survives_weaker (state g old) (state g new) _ _ (λ _ db made plain. never_commits sql params (state g old) db plain made) it.survives
+  refused_survives = survives_weaker (state g old) (state g new) _ _
+      (λ _ db made plain. never_commits sql params (state g old) db plain made) it.survives
 
   pub leaves_refused : {V E : Type 0} (a : Result V E) → IsErr a → Leaves g sql a old new
   leaves_refused a failed = record {
@@ -81,10 +94,12 @@ pub record IsUnderWay {S : Type 0} (g : Ghosts S) (sql : List ℕ) (old mid : He
 pub begun : {S : Type 0} (g : Ghosts S) (sql : List ℕ) (params : Row) (old mid : Held S) {Given : Type 0}
     → (HasCleanDisk (state g mid) → HasBegun g sql params old mid)
     → (old.in_transaction ≡ false → mid.in_transaction ≡ false)
-    → Survives (state g old) (state g mid) (CommitsShowing sql params (state g old)) → (HasGiven g sql params mid [] → Given) → IsUnderWay g sql old mid Given
+    → Survives (state g old) (state g mid) (CommitsShowing sql params (state g old)) → (HasGiven g sql params mid [] → Given)
+    → IsUnderWay g sql old mid Given
 begun g sql params old mid has mode survives known = record {
   mode = mode;
-  survives = survives_weaker (state g old) (state g mid) _ _ (λ _ db made plain. never_commits sql params (state g old) db plain made) survives;
+  survives = survives_weaker (state g old) (state g mid) _ _
+      (λ _ db made plain. never_commits sql params (state g old) db plain made) survives;
   same = λ plain clean. (begun_plain g sql params old mid plain (has clean)).1;
   given = λ plain clean. known (begun_plain g sql params old mid plain (has clean)).0;
 }
@@ -99,16 +114,19 @@ module _ {S : Type 0} (g : Ghosts S) (sql : List ℕ) (old mid : Held S) {Given 
     survives = way.survives;
   }
 
-  module _ (new : Held S) (mode : mid.in_transaction ≡ false → new.in_transaction ≡ false) (survives : Survives (state g mid) (state g new) (λ _. ⊥)) where
+  module _ (new : Held S) (mode : mid.in_transaction ≡ false → new.in_transaction ≡ false)
+      (survives : Survives (state g mid) (state g new) (λ _. ⊥)) where
     before : HasCleanDisk (state g new) → HasCleanDisk (state g mid)
     before = clean_before (state g mid) (state g new) _ survives
 
     after : Survives (state g old) (state g new) (λ _. IsPlainIfAny (understood old.schema sql) → ⊥)
-    after = survives_then (state g old) (state g mid) (state g new) _ _ _ (λ clean db no. no) (λ clean db no plain. no) way.survives survives
+    after = survives_then (state g old) (state g mid) (state g new) _ _ _ (λ clean db no. no)
+        (λ clean db no plain. no) way.survives survives
 
     -- it goes on to its next row, or to its end
     pub goes_on : {More : Type 0} → (HasCleanDisk (state g new) → IsUnchanged (state g mid) (state g new))
-        → (IsPlainIfAny (understood old.schema sql) → HasCleanDisk (state g new) → IsUnchanged (state g old) (state g mid) → Given → More) → IsUnderWay g sql old new More
+        → (IsPlainIfAny (understood old.schema sql) → HasCleanDisk (state g new) → IsUnchanged (state g old) (state g mid) → Given → More)
+        → IsUnderWay g sql old new More
     goes_on same more = record {
       mode = λ idle. mode (way.mode idle);
       survives = after;
@@ -152,7 +170,8 @@ module _ {S T : Type 0} (g : Ghosts S) (decode : Row → T) (is_fine : Row → T
   -- a row that is not decoded
   pub refused_row : (r : Result (Vec T Global) TableFault) (fault : TableFault) → IsErrAnd r (λ f. f ≡ fault)
       → (row : Row) → (fault ≡ Damaged → is_fine row → ⊥)
-      → IsUnderWay g sql old new ((before : List Row) × Begins sql params (state g new) (before ++ row ∷ [])) → ReadsEach g decode is_fine sql params r old new
+      → IsUnderWay g sql old new ((before : List Row) × Begins sql params (state g new) (before ++ row ∷ []))
+      → ReadsEach g decode is_fine sql params r old new
   refused_row (Ok v) fault failed row blames way = absurd failed
   refused_row (Err f) fault failed row blames way = record {
     leaves = leaves_way g sql old new way (Err f);
@@ -167,7 +186,12 @@ module _ {S T : Type 0} (g : Ghosts S) (decode : Row → T) (is_fine : Row → T
   pub all_read : (v : Vec T Global)
       → IsUnderWay g sql old new (ShowsAs decode (Shown sql params (state g old) (state g new)) v.items)
       → ReadsEach g decode is_fine sql params (Ok v) old new
-  all_read v way = record { leaves = leaves_way g sql old new way (Ok v); rows = way.given; undamaged = λ is. absurd (cc); refused = λ plain clean is. absurd (cc) }
+  all_read v way = record {
+    leaves = leaves_way g sql old new way (Ok v);
+    rows = way.given;
+    undamaged = λ is. absurd (cc);
+    refused = λ plain clean is. absurd (cc);
+  }
 
 -- whether a row is found, by a step to the first
 module _ {S : Type 0} (g : Ghosts S) (sql : List ℕ) (params : Row) (old mid new : Held S) where
@@ -175,7 +199,8 @@ module _ {S : Type 0} (g : Ghosts S) (sql : List ℕ) (params : Row) (old mid ne
       → IsUnchanged (state g old) (state g mid) → HasGiven g sql params mid []
       → Advances g mid new (option_copied found)
       → is_some found ≡ false → Shown sql params (state g old) (state g new) []
-  none_found None plain same given on empty = shown_before sql params (state g old) (state g mid) (state g new) [] plain same (on sql params [] given)
+  none_found None plain same given on empty =
+      shown_before sql params (state g old) (state g mid) (state g new) [] plain same (on sql params [] given)
   none_found (Some row) plain same given on empty = absurd (cc)
 
   one_found : (found : Option (Bor Row)) → HasGiven g sql params mid [] → Advances g mid new (option_copied found)
@@ -186,26 +211,34 @@ module _ {S : Type 0} (g : Ghosts S) (sql : List ℕ) (params : Row) (old mid ne
   pub row_found : (found : Option (Bor Row)) (b : Bool) → b ≡ is_some found
       → IsUnderWay g sql old mid (HasGiven g sql params mid [])
       → (mid.in_transaction ≡ false → new.in_transaction ≡ false) → Survives (state g mid) (state g new) (λ _. ⊥)
-      → (HasCleanDisk (state g new) → IsUnchanged (state g mid) (state g new)) → (HasCleanDisk (state g new) → Advances g mid new (option_copied found)) → FindsRow g sql params (Ok b) old new
+      → (HasCleanDisk (state g new) → IsUnchanged (state g mid) (state g new))
+      → (HasCleanDisk (state g new) → Advances g mid new (option_copied found)) → FindsRow g sql params (Ok b) old new
   row_found found b told way mode survives same on =
       let before = clean_before (state g mid) (state g new) _ survives in
       let done : IsUnderWay g sql old new (Unit {0}) = goes_on g sql old mid way new mode survives same (λ plain clean was given. tt) in
       record {
         leaves = leaves_way g sql old new done (Ok b);
-        none = λ plain clean no. none_found found plain (way.same plain (before clean)) (way.given plain (before clean)) (on clean) (sym told ∙ no);
+        none = λ plain clean no. none_found found plain (way.same plain (before clean)) (way.given plain (before clean)) (on clean)
+            (sym told ∙ no);
         some = λ plain clean yes. one_found found (way.given plain (before clean)) (on clean) (sym told ∙ yes);
       }
 
   pub not_found : (r : Result Bool Error) → IsErr r → Leaves g sql r old new → FindsRow g sql params r old new
-  not_found r failed leaves = record { leaves = leaves; none = λ plain clean. IfOk-from_err r _ failed; some = λ plain clean. IfOk-from_err r _ failed }
+  not_found r failed leaves = record {
+    leaves = leaves;
+    none = λ plain clean. IfOk-from_err r _ failed;
+    some = λ plain clean. IfOk-from_err r _ failed;
+  }
 
-module _ {S T : Type 0} (g : Ghosts S) (decode : Row → T) (sql : List ℕ) (params : Row) (old mid new : Held S) (all : List T) (so_far : ShowsAs decode (HasGiven g sql params mid) all) where
+module _ {S T : Type 0} (g : Ghosts S) (decode : Row → T) (sql : List ℕ) (params : Row) (old mid new : Held S) (all : List T)
+    (so_far : ShowsAs decode (HasGiven g sql params mid) all) where
   -- no row is to come
   pub ended : IsPlainIfAny (understood old.schema sql) → IsUnchanged (state g old) (state g mid)
       → Advances g mid new None → ShowsAs decode (Shown sql params (state g old) (state g new)) all
   ended plain same on = record {
     rows = so_far.rows;
-    shown = shown_before sql params (state g old) (state g mid) (state g new) so_far.rows plain same (on sql params so_far.rows so_far.shown);
+    shown = shown_before sql params (state g old) (state g mid) (state g new) so_far.rows plain same
+        (on sql params so_far.rows so_far.shown);
     decoded = so_far.decoded;
   }
 
@@ -222,14 +255,22 @@ module _ {S T : Type 0} (g : Ghosts S) (decode : Row → T) (sql : List ℕ) (pa
 pub found_any : (IsShown : List Row → Type 0) (sql : List ℕ) (params : Row) (old new : State)
     → IsPlainIfAny (understood old.now.schema sql) → ((rows : List Row) → Shown sql params old new rows → IsShown rows)
     → ((c : Compiled) → understood old.now.schema sql ≡ Ok c → (db : Database) (full : Row) → EndsIn c.command db full)
-    → (r : Result Bool Error) → OnOk r (IsUnchanged old new) → IfOk r (λ found. found ≡ false → Shown sql params old new []) → IfOk r (λ found. found ≡ true → (first : Row) × Begins sql params new (first ∷ []))
+    → (r : Result Bool Error) → OnOk r (IsUnchanged old new) → IfOk r (λ found. found ≡ false → Shown sql params old new [])
+    → IfOk r (λ found. found ≡ true → (first : Row) × Begins sql params new (first ∷ []))
     → IfOk r (FindsAny IsShown)
-found_any IsShown sql params old new plain known ends (Ok false) same none some = record { rows = []; shown = known [] (none refl); told = refl }
+found_any IsShown sql params old new plain known ends (Ok false) same none some =
+    record { rows = []; shown = known [] (none refl); told = refl }
 found_any IsShown sql params old new plain known ends (Ok true) same none some =
     let one = some refl in
-    let back : (c : Compiled) → understood new.now.schema sql ≡ Ok c → understood old.now.schema sql ≡ Ok c = λ c. subst (λ (d : Database). understood d.schema sql ≡ Ok c) same.0.now_is in
-    let all = begins_shown sql params new new (one.0 ∷ []) one.1 (unchanged new same.0.is_open) (λ c db it source. ends c (back c it.is) db (timed params c.formats it.now)) in
-    record { rows = one.0 ∷ all.0; shown = known (one.0 ∷ all.0) (shown_before sql params old new new (one.0 ∷ all.0) plain same all.1); told = refl }
+    let back : (c : Compiled) → understood new.now.schema sql ≡ Ok c
+    → understood old.now.schema sql ≡ Ok c = λ c. subst (λ (d : Database). understood d.schema sql ≡ Ok c) same.0.now_is in
+    let all = begins_shown sql params new new (one.0 ∷ []) one.1 (unchanged new same.0.is_open)
+    (λ c db it source. ends c (back c it.is) db (timed params c.formats it.now)) in
+    record {
+      rows = one.0 ∷ all.0;
+      shown = known (one.0 ∷ all.0) (shown_before sql params old new new (one.0 ∷ all.0) plain same all.1);
+      told = refl;
+    }
 found_any IsShown sql params old new plain known ends (Err e) same none some = tt
 
 -- a row that was refused is one of those that are shown
@@ -239,7 +280,10 @@ pub none_refused : (is_fine : Row → Type 0) (IsShown : List Row → Type 0) (s
     → Refuses is_fine sql params old new → ((rows : List Row) → IsShown rows → AllByRecursion is_fine rows) → ⊥
 none_refused is_fine IsShown sql params old new plain known ends h fine =
     let first : List Row = h.before ++ h.row ∷ [] in
-    let back : (c : Compiled) → understood new.now.schema sql ≡ Ok c → understood old.now.schema sql ≡ Ok c = λ c. subst (λ (d : Database). understood d.schema sql ≡ Ok c) h.same.0.now_is in
-    let all = begins_shown sql params new new first h.begins (unchanged new h.same.0.is_open) (λ c db it source. ends c (back c it.is) db (timed params c.formats it.now)) in
+    let back : (c : Compiled) → understood new.now.schema sql ≡ Ok c
+    → understood old.now.schema sql ≡ Ok c = λ c. subst (λ (d : Database). understood d.schema sql ≡ Ok c) h.same.0.now_is in
+    let all = begins_shown sql params new new first h.begins (unchanged new h.same.0.is_open)
+    (λ c db it source. ends c (back c it.is) db (timed params c.formats it.now)) in
     let there = has_left first all.0 h.row (has_right h.before (h.row ∷ []) h.row (inl refl)) in
-    h.refused (all_has is_fine (first ++ all.0) h.row (fine (first ++ all.0) (known (first ++ all.0) (shown_before sql params old new new (first ++ all.0) plain h.same all.1))) there)
+    h.refused (all_has is_fine (first ++ all.0) h.row
+    (fine (first ++ all.0) (known (first ++ all.0) (shown_before sql params old new new (first ++ all.0) plain h.same all.1))) there)

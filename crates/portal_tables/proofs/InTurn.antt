@@ -27,14 +27,28 @@ module _ {round : Round} {Right : Database → Type 0} {V E : Type 0} {Told : Da
     err = λ clean on. on_err (IsUnchangedOrUndone s s) r (inl (unchanged s on));
     now = λ clean. on_ok _ r refl;
     mode = λ idle. idle;
-    crash = record { clean = omega arith; shield = λ h. h; counts = omega arith; limit = refl; closes = λ clean on. inl on; crash = λ clean db h. inl h };
+    crash = record {
+      clean = omega arith;
+      shield = λ h. h;
+      counts = omega arith;
+      limit = refl;
+      closes = λ clean on. inl on;
+      crash = λ clean db h. inl h;
+    };
     told = λ own right clean. told own right;
   }
 
   module _ {r : Result V E} {a b : State} where
     -- a query is sure to be made, and perhaps none is
     pub reads_open : {On : State → Type 0} → Reading round Anyhow Right Told r a b → Reading round On Right Told r a b
-    reads_open h = record { same = λ clean on. h.same clean tt; err = λ clean on. h.err clean tt; now = h.now; mode = h.mode; crash = h.crash; told = h.told }
+    reads_open h = record {
+      same = λ clean on. h.same clean tt;
+      err = λ clean on. h.err clean tt;
+      now = h.now;
+      mode = h.mode;
+      crash = h.crash;
+      told = h.told;
+    }
 
     -- of the tables of more rounds, and of a database of which more is known
     pub reads_of : {there : Round} {Known : Database → Type 0} {On : State → Type 0}
@@ -55,7 +69,8 @@ module _ {round : Round} {Right : Database → Type 0} {V E : Type 0} {Told : Da
         → Reading round On Right Told r a b → Reading there On Right Told r a b
     reads_wide wide h = reads_of wide (λ own right. right) h
 
-pub reads_both : {On : State → Type 0} {Right : Database → Type 0} {V E : Type 0} {Told : Database → Result V E → Type 0} {r : Result V E} {a b : State}
+pub reads_both : {On : State → Type 0} {Right : Database → Type 0} {V E : Type 0} {Told : Database → Result V E
+    → Type 0} {r : Result V E} {a b : State}
     → Reading First On Right Told r a b → Reading Second On Right Told r a b
 reads_both {a = a} h = reads_wide (current_own a.now.schema) h
 
@@ -64,12 +79,34 @@ module _ {round : Round} {On : State → Type 0} {Right : Database → Type 0} {
   pub reads_as : {V E : Type 0} {Told : Database → Result V E → Type 0} {x : Result U D} {r : Result V E} {a b : State}
       → Reading round On Right T x a b → (IsErr x → IsErr r)
       → (HasRound round a.now.schema → Right a.now → T a.now x → Told a.now r) → Reading round On Right Told r a b
-  reads_as {x = Ok u} {r = Ok v} h fails so = record { same = h.same; err = λ clean on. tt; now = h.now; mode = h.mode; crash = h.crash; told = λ own right clean. so own right (h.told own right clean) }
+  reads_as {x = Ok u} {r = Ok v} h fails so =
+      record {
+        same = h.same;
+        err = λ clean on. tt;
+        now = h.now;
+        mode = h.mode;
+        crash = h.crash;
+        told = λ own right clean. so own right (h.told own right clean);
+      }
   reads_as {x = Ok u} {r = Err e} h fails so =
-      record { same = λ clean on. tt; err = λ clean on. inl (h.same clean on); now = λ clean. tt; mode = h.mode; crash = h.crash; told = λ own right clean. so own right (h.told own right clean) }
+      record {
+        same = λ clean on. tt;
+        err = λ clean on. inl (h.same clean on);
+        now = λ clean. tt;
+        mode = h.mode;
+        crash = h.crash;
+        told = λ own right clean. so own right (h.told own right clean);
+      }
   reads_as {x = Err d} {r = Ok v} h fails so = let no = fails refl in absurd (cc)
   reads_as {x = Err d} {r = Err e} h fails so =
-      record { same = λ clean on. tt; err = h.err; now = λ clean. tt; mode = h.mode; crash = h.crash; told = λ own right clean. so own right (h.told own right clean) }
+      record {
+        same = λ clean on. tt;
+        err = h.err;
+        now = λ clean. tt;
+        mode = h.mode;
+        crash = h.crash;
+        told = λ own right clean. so own right (h.told own right clean);
+      }
 
   -- what was answered is worked on
   pub reads_more : {V E : Type 0} {Told : Database → Result V E → Type 0} {u : U} {r : Result V E} {a b : State}
@@ -82,7 +119,8 @@ module _ {round : Round} {On : State → Type 0} {Right : Database → Type 0} {
       → IsErrAnd r (λ f. f ≡ e) → Reading round On Right T (Err e) a b
       → (HasRound round a.now.schema → Right a.now → T a.now (Err e) → Told a.now (Err e)) → Reading round On Right Told r a b
   reads_handed {r = Ok v} is h so = absurd is
-  reads_handed {Told = Told} {r = Err f} {a} {b} is h so = subst (λ f. Reading round On Right Told (Err f) a b) (sym is) (reads_as h (λ no. no) so)
+  reads_handed {Told = Told} {r = Err f} {a} {b} is h so =
+      subst (λ f. Reading round On Right Told (Err f) a b) (sym is) (reads_as h (λ no. no) so)
 
   -- there is not enough memory for what was answered
   pub reads_short : {V : Type 0} {Told : Database → Result V TableFault → Type 0} {u : U} {r : Result V TableFault} {a b : State}
@@ -109,8 +147,11 @@ module _ {round : Round} {On : State → Type 0} {Right : Database → Type 0} {
           crash = survives_then a b c _ _ _ (λ clean db no. no) (λ clean db no. no) p.crash q.crash;
           told = λ own right clean.
               let early = before clean in
-              let t = p.told own right early in
-              (t, subst (λ (d : Database). HasRound round d.schema → Known d → N d r) (p.now early) (λ own known. q.told own known clean) own (known own (λ on. (p.same early on).0.was_open) right t));
+              let t = p.told own right early in (
+                t,
+                subst (λ (d : Database). HasRound round d.schema → Known d → N d r) (p.now early)
+                    (λ own known. q.told own known clean) own (known own (λ on. (p.same early on).0.was_open) right t),
+              );
         }
 
     pub reads_then : Reading round On Right T (Ok u) a b → Reading round IfOpen Right N r b c
@@ -126,7 +167,8 @@ stays_left old new settled (inr undone) on =
     (first, was.0 ∙ sym (settled first), was.1)
 
 -- a read only looks, whatever it answers
-pub looks_by : {round : Round} {Right : Database → Type 0} {V E : Type 0} {Told : Database → Result V E → Type 0} (r : Result V E) {a b : State}
+pub looks_by : {round : Round} {Right : Database → Type 0} {V E : Type 0} {Told : Database → Result V E → Type 0}
+    (r : Result V E) {a b : State}
     → Reading round Anyhow Right Told r a b → OnlyLooks a b
 looks_by r {a} {b} h = record {
   stays = λ settled clean on. stays_left a b settled (either r (h.same clean tt) (h.err clean tt)) on;
@@ -144,7 +186,14 @@ pub looks_never : (s : State) → OnlyLooks s s
 looks_never s = record {
   stays = λ settled clean on. (on, refl, refl);
   mode = λ idle. idle;
-  crash = record { clean = omega arith; shield = λ h. h; counts = omega arith; limit = refl; closes = λ clean on. inl on; crash = λ clean db h. inl h };
+  crash = record {
+    clean = omega arith;
+    shield = λ h. h;
+    counts = omega arith;
+    limit = refl;
+    closes = λ clean on. inl on;
+    crash = λ clean db h. inl h;
+  };
 }
 
 pub stays_then : (a b c : State) → Stays a b → Stays b c → Stays a c
@@ -164,7 +213,8 @@ looks_then a b c p q = record {
 }
 
 -- an error that is handed on blames the rows if it did, and a shortage of memory never does
-pub blamed : {V W : Type 0} (r : Result V TableFault) (fault : TableFault) → IsErrAnd r (λ f. f ≡ fault) → r ≡ Err Damaged → ◌≡◌ {A = Result W TableFault} (Err fault) (Err Damaged)
+pub blamed : {V W : Type 0} (r : Result V TableFault) (fault : TableFault) → IsErrAnd r (λ f. f ≡ fault) → r ≡ Err Damaged
+    → ◌≡◌ {A = Result W TableFault} (Err fault) (Err Damaged)
 blamed (Ok v) fault is told = absurd is
 blamed (Err f) fault is told = cc
 
@@ -218,4 +268,5 @@ map_one f (Some x) = refl
 pub next_given : {X Y : Type 0} (f : X → Option Y) (xs : List X) (i : ℕ) (x : X) (ys : List Y) (y : Option Y)
     → x ≡ get_or xs i x → i < length xs → ys ≡ filter_map f (take i xs) → y ≡ f x
     → ys ++ cons_option y [] ≡ filter_map f (take (i + 1) xs)
-next_given f xs i x ys y is within given here = ap₂ (λ l o. l ++ cons_option o []) given here ∙ sym (ap (filter_map f) (next_item xs i x is within) ∙ filter_map-append f (take i xs) (x ∷ []))
+next_given f xs i x ys y is within given here = ap₂ (λ l o. l ++ cons_option o []) given here
+    ∙ sym (ap (filter_map f) (next_item xs i x is within) ∙ filter_map-append f (take i xs) (x ∷ []))

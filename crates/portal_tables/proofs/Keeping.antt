@@ -24,7 +24,8 @@ apart_put new (r ∷ rows) n is apart free = go (apart_put new rows n is apart.2
     none : (rows : List Row) → is_taken rows new ≡ false
         → AllByRecursion (λ s. is_eq (value_cmp (rowid new) (rowid s)) ≡ false) rows
     none [] free = tt
-    none (s ∷ rows) free = let two = or_parts (is_eq (value_cmp (rowid s) (rowid new))) (is_taken rows new) free in (eq_flips (rowid new) (rowid s) ∙ two.0, none rows two.1)
+    none (s ∷ rows) free = let two = or_parts (is_eq (value_cmp (rowid s) (rowid new))) (is_taken rows new) free in
+        (eq_flips (rowid new) (rowid s) ∙ two.0, none rows two.1)
 
     go : RowNumbersDiffer (put_row new rows) → (o : Ordering) → value_cmp (rowid r) (rowid new) ≡ o
         → RowNumbersDiffer (match_ordering o (r ∷ put_row new rows) (new ∷ rows) (new ∷ r ∷ rows))
@@ -56,13 +57,15 @@ rows_put rows (x ∷ news) fresh numbers apart =
     let two = and_parts (not (is_taken rows x)) (are_fresh (put_row x rows) news) fresh in
     let free : is_taken rows x ≡ false = not_true (is_taken rows x) two.0 in
     let rest = rows_put (put_row x rows) news two.1 numbers.1 (apart_put x rows _ numbers.0 apart free) in (
-      IsPermutation-trans _ _ _ (IsPermutation-sym _ _ (IsPermutation-middle news x rows)) (IsPermutation-trans _ _ _ (IsPermutation-append_right news _ _ (put_permutes x rows free)) rest.0),
+      IsPermutation-trans _ _ _ (IsPermutation-sym _ _ (IsPermutation-middle news x rows))
+          (IsPermutation-trans _ _ _ (IsPermutation-append_right news _ _ (put_permutes x rows free)) rest.0),
       rest.1,
     )
 
 -- no table but this one is touched by two changes in turn
 pub keeps_then : (tree : ℕ) (a b c : Database) → Keeps tree a b → Keeps tree b c → Keeps tree a c
-keeps_then tree a b c p q = all_two (λ t. t ≢ tree → b.trees t ≡ a.trees t) (λ t. t ≢ tree → c.trees t ≡ b.trees t) (λ t. t ≢ tree → c.trees t ≡ a.trees t) (λ t early late other. late other ∙ early other) own_trees p q
+keeps_then tree a b c p q = all_two (λ t. t ≢ tree → b.trees t ≡ a.trees t) (λ t. t ≢ tree → c.trees t ≡ b.trees t)
+    (λ t. t ≢ tree → c.trees t ≡ a.trees t) (λ t early late other. late other ∙ early other) own_trees p q
 
 -- what is so of each tree but one is so of trees among which that is not
 pub others_are : (P : ℕ → Type 0) (tree : ℕ) (trees : List ℕ) → list_all (λ t. not (eqb t tree)) trees ≡ true
@@ -106,11 +109,15 @@ adds_then tree cells more a b c adds later own =
 -- rows come, and then a run of them by one text
 pub rows_run : {S R A B : Type 0} (g : Ghosts S) (tree : ℕ) (values cells : R → Row) (text : List ℕ) (count : ℕ)
     → AddsBy g text count tree values cells → (rows run : List R) → length run ≡ count
-    → (a : A) (r : Result B Error) (old mid new : Transaction S) → Does g (GoesOn (Adds tree (map cells rows))) (Ok a) old mid → Does g (Ran text (flat_map values run)) r mid new
+    → (a : A) (r : Result B Error) (old mid new : Transaction S) → Does g (GoesOn (Adds tree (map cells rows))) (Ok a) old mid
+    → Does g (Ran text (flat_map values run)) r mid new
     → Does g (GoesOn (Adds tree (map cells (rows ++ run)))) r old new
 rows_run g tree values cells text count adds rows run are a r old mid new before after =
-    does_then g _ _ _ a r old mid new before after (λ was ran. goes_then (Adds tree (map cells rows)) (Adds tree (map cells run)) (Adds tree (map cells (rows ++ run))) _ _ _ was (adds run are mid.conn.now new.conn.now ran)
-    (λ p q. subst (λ l. Adds tree l (state g old.conn.now).now (state g new.conn.now).now) (sym (map-append cells rows run)) (adds_then tree (map cells rows) (map cells run) _ (state g mid.conn.now).now _ p q)))
+    does_then g _ _ _ a r old mid new before after
+    (λ was ran. goes_then (Adds tree (map cells rows)) (Adds tree (map cells run)) (Adds tree (map cells (rows ++ run))) _ _ _ was
+    (adds run are mid.conn.now new.conn.now ran)
+    (λ p q. subst (λ l. Adds tree l (state g old.conn.now).now (state g new.conn.now).now) (sym (map-append cells rows run))
+    (adds_then tree (map cells rows) (map cells run) _ (state g mid.conn.now).now _ p q)))
 
 pub drops_apart : (tree : ℕ) (p : Row → Bool) (old new : Database) → Drops tree p old new
     → RowNumbersDiffer (old.trees tree) → RowNumbersDiffer (new.trees tree)

@@ -27,11 +27,13 @@ pub permuted : (keys : List ℕ) (p : Row → Bool) (show : Row → Row) (table 
     → ListsBy keys p show table shown → IsPermutation (map show (filter p table)) shown
 permuted keys p show table shown h =
     let second = λ (k : Row × Row). k.1 in
-    subst₂ IsPermutation (map-map second (λ r. (columns keys r, show r)) (filter p table)) (sym h.is) (IsPermutation-map second _ h.keyed h.same)
+    subst₂ IsPermutation (map-map second (λ r. (columns keys r, show r)) (filter p table)) (sym h.is)
+    (IsPermutation-map second _ h.keyed h.same)
 
 pub whole_table : (keys cs : List ℕ) (table shown : List Row) → ListsBy keys every (columns cs) table shown
     → IsPermutation (map (columns cs) table) shown
-whole_table keys cs table shown h = subst (λ rows. IsPermutation (map (columns cs) rows) shown) (filter_all table) (permuted _ _ _ table shown h)
+whole_table keys cs table shown h = subst (λ rows. IsPermutation (map (columns cs) rows) shown) (filter_all table)
+    (permuted _ _ _ table shown h)
 
 -- a value does not come after one that stands behind it
 abbrev pub AtMost : Value → Value → Type 0
@@ -42,14 +44,19 @@ ascends : (at : ℕ) (rest : List ℕ) (p : Row → Bool) (table shown : List Ro
 ascends at rest p table shown h =
     let pair : Row → Row × Row = λ r. (columns (at ∷ []) r, columns (at ∷ rest) r) in
     let alike : AllByRecursion (λ (k : Row × Row). column k.0 0 ≡ column k.1 0) h.keyed =
-    all_permuted _ (map pair (filter p table)) h.keyed h.same (all_map (λ (k : Row × Row). column k.0 0 ≡ column k.1 0) pair (filter p table) (all_of _ (λ r. refl) (filter p table))) in
+    all_permuted _ (map pair (filter p table)) h.keyed h.same
+    (all_map (λ (k : Row × Row). column k.0 0 ≡ column k.1 0) pair (filter p table) (all_of _ (λ r. refl) (filter p table))) in
     let by_value : IsSorted (λ (a b : Row × Row). value_cmp (column a.0 0) (column b.0 0)) h.keyed =
-    subst (λ (cmp : Row × Row → Row × Row → Ordering). IsSorted cmp h.keyed) (λ i a b. then-Equal (value_cmp (column a.0 0) (column b.0 0)) i) h.sorted in
-    let up : IsAscending AtMost (map (λ (k : Row × Row). column k.0 0) h.keyed) = ascending_from_sorted value_cmp value_cmp_total _ (IsSorted-map value_cmp (λ (k : Row × Row). column k.0 0) h.keyed by_value) in
-    subst (IsAscending AtMost) (all_map_on _ (λ (k : Row × Row). column k.0 0) (λ k. column k.1 0) h.keyed alike (λ k same. same) ∙ sym (ap (map (λ c. column c 0)) h.is ∙ map-map (λ c. column c 0) (λ (k : Row × Row). k.1) h.keyed)) up
+    subst (λ (cmp : Row × Row → Row × Row → Ordering). IsSorted cmp h.keyed)
+    (λ i a b. then-Equal (value_cmp (column a.0 0) (column b.0 0)) i) h.sorted in
+    let up : IsAscending AtMost (map (λ (k : Row × Row). column k.0 0) h.keyed) =
+    ascending_from_sorted value_cmp value_cmp_total _ (IsSorted-map value_cmp (λ (k : Row × Row). column k.0 0) h.keyed by_value) in
+    subst (IsAscending AtMost) (all_map_on _ (λ (k : Row × Row). column k.0 0) (λ k. column k.1 0) h.keyed alike (λ k same. same)
+    ∙ sym (ap (map (λ c. column c 0)) h.is ∙ map-map (λ c. column c 0) (λ (k : Row × Row). k.1) h.keyed)) up
 
 -- so keys that go as they do never fall
-module _ {X : Type 0} (R : X → X → Type 0) (f : X → Key) (G : X → Type 0) (agrees : (a b : X) → G a → G b → R a b → is_before (f b) (f a) ≡ false) where
+module _ {X : Type 0} (R : X → X → Type 0) (f : X → Key) (G : X → Type 0)
+    (agrees : (a b : X) → G a → G b → R a b → is_before (f b) (f a) ≡ false) where
   over : (v : X) (ws : List X) → G v → AllByRecursion (R v) ws → AllByRecursion G ws
       → AllByRecursion (λ l. is_before l (f v) ≡ false) (map f ws)
   over v [] g up all = tt
@@ -71,8 +78,10 @@ IsCount v = (n : ℕ) × (v ≡ Int (pos n))
 
 pub texts_agree : (a b : Value) → IsText a → IsText b → AtMost a b → is_before (bytes b) (bytes a) ≡ false
 texts_agree a b s t h =
-    let here : is_gt (slice_cmp nat_cmp s.0 t.0) ≡ false = ap is_gt (sym (value_cmp-Text s.0 t.0)) ∙ sym (λ i. is_gt (value_cmp (s.1 i) (t.1 i))) ∙ h in
-    (λ i. is_before (bytes (t.1 i)) (bytes (s.1 i))) ∙ ap is_lt (nat_list_cmp_total.antisymm t.0 s.0) ∙ turned (slice_cmp nat_cmp s.0 t.0) here
+    let here : is_gt (slice_cmp nat_cmp s.0 t.0) ≡ false = ap is_gt (sym (value_cmp-Text s.0 t.0))
+    ∙ sym (λ i. is_gt (value_cmp (s.1 i) (t.1 i))) ∙ h in
+    (λ i. is_before (bytes (t.1 i)) (bytes (s.1 i))) ∙ ap is_lt (nat_list_cmp_total.antisymm t.0 s.0)
+    ∙ turned (slice_cmp nat_cmp s.0 t.0) here
 
 -- one that is not above is not behind
 pos-lt : {m n : ℕ} → m < n → pos m <ℤ pos n
@@ -81,13 +90,18 @@ pos-lt {m} {n} less = record { lt = lt→ltb m n less }
 at_most : (m n : ℕ) → is_gt (int_cmp (pos m) (pos n)) ≡ false → is_lt (nat_cmp n m) ≡ false
 at_most m n h = elim (cases_lt n m) [
   | inl less ↦ absurd (let e : true ≡ false = ap is_gt (int_cmp_is (pos m) (pos n) Greater (pos-lt less)) ∙ h in cc)
-  | inr most ↦ elim (cases_lt m n) [ inl less ↦ ap is_lt (sym (nat_cmp_is n m Greater less)) | inr least ↦ ap is_lt (sym (nat_cmp_is n m Equal (omega (arith, most, least)))) ]
+  | inr most ↦ elim (cases_lt m n) [
+    | inl less ↦ ap is_lt (sym (nat_cmp_is n m Greater less))
+    | inr least ↦ ap is_lt
+        (sym (nat_cmp_is n m Equal (omega (arith, most, least))))
+  ]
 ]
 
 pub counts_agree : (a b : Value) → IsCount a → IsCount b → AtMost a b
     → is_before (number_in b ∷ []) (number_in a ∷ []) ≡ false
 counts_agree a b s t h =
-    let here : is_gt (int_cmp (pos s.0) (pos t.0)) ≡ false = ap is_gt (sym (value_cmp-Int (pos s.0) (pos t.0))) ∙ sym (λ i. is_gt (value_cmp (s.1 i) (t.1 i))) ∙ h in
+    let here : is_gt (int_cmp (pos s.0) (pos t.0)) ≡ false = ap is_gt (sym (value_cmp-Int (pos s.0) (pos t.0)))
+    ∙ sym (λ i. is_gt (value_cmp (s.1 i) (t.1 i))) ∙ h in
     (λ i. is_before (number_in (t.1 i) ∷ []) (number_in (s.1 i) ∷ [])) ∙ ap is_lt (then-Equal (nat_cmp t.0 s.0)) ∙ at_most s.0 t.0 here
 
 -- a table by its keys
@@ -107,9 +121,14 @@ module _ (rest : List ℕ) (table shown : List Row) (h : ListsBy (1 ∷ []) ever
   pub roll_rises : AllByRecursion (λ r. IsText (column r 1)) table → Rise (map row_key (by_key table))
       → Rise (map first_cell shown)
   roll_rises texts up =
-      let good : AllByRecursion IsText (map (λ c. column c 0) shown) = all_map IsText (λ c. column c 0) shown (all_permuted (λ c. IsText (column c 0)) (map (columns (1 ∷ rest)) table) shown whole_roll (all_map (λ c. IsText (column c 0)) (columns (1 ∷ rest)) table texts)) in
-      let never : NeverFall (map first_cell shown) = subst NeverFall (map-map bytes (λ c. column c 0) shown) (falls AtMost bytes IsText texts_agree _ (ascends 1 rest every table shown h) good) in
-      let there : map first_cell (put_all first_cell (map (columns (1 ∷ rest)) table) []) ≡ map row_key (by_key table) = ap (map first_cell) in_place ∙ map-map first_cell (columns (1 ∷ rest)) (by_key table) in
+      let good : AllByRecursion IsText (map (λ c. column c 0) shown) =
+      all_map IsText (λ c. column c 0) shown (all_permuted (λ c. IsText (column c 0)) (map (columns (1 ∷ rest)) table) shown whole_roll
+      (all_map (λ c. IsText (column c 0)) (columns (1 ∷ rest)) table texts)) in
+      let never : NeverFall (map first_cell shown) =
+      subst NeverFall (map-map bytes (λ c. column c 0) shown)
+      (falls AtMost bytes IsText texts_agree _ (ascends 1 rest every table shown h) good) in
+      let there : map first_cell (put_all first_cell (map (columns (1 ∷ rest)) table) [])
+      ≡ map row_key (by_key table) = ap (map first_cell) in_place ∙ map-map first_cell (columns (1 ∷ rest)) (by_key table) in
       let found = sorted_order first_cell (map (columns (1 ∷ rest)) table) shown whole_roll never (subst Rise (sym there) up) in
       subst Rise (sym (ap (map first_cell) found ∙ there)) up
 
@@ -154,7 +173,8 @@ module _ (key : Key) (table shown : List Row) (h : ListsBy (2 ∷ []) (has_text 
   list_place = put_all_map place_key shown_key list_columns (λ r. refl) mine []
 
   list_shown : CountUp 1 (map shown_rank shown) → shown ≡ map list_columns (by_place mine)
-  list_shown up = in_order shown_key (map list_columns mine) shown same (subst Rise (map-map one shown_rank shown) (counts_rise 1 _ up)) ∙ list_place
+  list_shown up = in_order shown_key (map list_columns mine) shown same (subst Rise (map-map one shown_rank shown) (counts_rise 1 _ up))
+      ∙ list_place
 
   places_are : map shown_rank (map list_columns (by_place mine)) ≡ map place_of (by_place mine)
   places_are = map-map shown_rank list_columns (by_place mine)
@@ -167,13 +187,20 @@ module _ (key : Key) (table shown : List Row) (h : ListsBy (2 ∷ []) (has_text 
 
   pub list_counts : IsWhole mine → CountUp 1 (map shown_rank shown)
   list_counts whole =
-      let high : AllByRecursion (λ r. 1 ≤ place_of r) (by_place mine) = all_unmap (λ m. 1 ≤ m) place_of (by_place mine) (counts_high 1 _ (omega arith) whole) in
-      let low : AllByRecursion (λ r. IsCount (column r 2)) mine = all_weaker _ _ (λ r. is_count (column r 2)) mine (all_permuted _ (by_place mine) mine (IsPermutation-sym _ _ (permutes place_key mine)) high) in
-      let good : AllByRecursion (λ c. IsCount (column c 0)) shown = all_permuted (λ c. IsCount (column c 0)) (map list_columns mine) shown same (all_map (λ c. IsCount (column c 0)) list_columns mine low) in
+      let high : AllByRecursion (λ r. 1 ≤ place_of r) (by_place mine) =
+      all_unmap (λ m. 1 ≤ m) place_of (by_place mine) (counts_high 1 _ (omega arith) whole) in
+      let low : AllByRecursion (λ r. IsCount (column r 2)) mine =
+      all_weaker _ _ (λ r. is_count (column r 2)) mine
+      (all_permuted _ (by_place mine) mine (IsPermutation-sym _ _ (permutes place_key mine)) high) in
+      let good : AllByRecursion (λ c. IsCount (column c 0)) shown =
+      all_permuted (λ c. IsCount (column c 0)) (map list_columns mine) shown same
+      (all_map (λ c. IsCount (column c 0)) list_columns mine low) in
       let never : NeverFall (map shown_key shown) = subst NeverFall (map-map (λ v. one (number_in v)) (λ c. column c 0) shown)
-      (falls AtMost (λ v. one (number_in v)) IsCount counts_agree _ (ascends 2 (3 ∷ []) (has_text 1 key) table shown h) (all_map IsCount (λ c. column c 0) shown good)) in
+      (falls AtMost (λ v. one (number_in v)) IsCount counts_agree _ (ascends 2 (3 ∷ []) (has_text 1 key) table shown h)
+      (all_map IsCount (λ c. column c 0) shown good)) in
       let rises : Rise (map shown_key (put_all shown_key (map list_columns mine) [])) =
-      subst Rise (map-map one place_of (by_place mine) ∙ sym (ap (map shown_key) list_place ∙ map-map shown_key list_columns (by_place mine))) (counts_rise 1 _ whole) in
+      subst Rise (map-map one place_of (by_place mine)
+      ∙ sym (ap (map shown_key) list_place ∙ map-map shown_key list_columns (by_place mine))) (counts_rise 1 _ whole) in
       let found = sorted_order shown_key (map list_columns mine) shown same never rises in
       subst (CountUp 1) (sym (ap (map shown_rank) (found ∙ list_place) ∙ places_are)) whole
 
@@ -181,4 +208,5 @@ module _ (key : Key) (table shown : List Row) (h : ListsBy (2 ∷ []) (has_text 
 pub none_chosen : (key : Key) (table : List Row) → chosen table key ≡ [] → of_key key table ≡ []
 none_chosen key table e =
     let mine = of_key key table in
-    nil_from_length mine (sym (length_permutation mine (by_place mine) (permutes place_key mine)) ∙ sym (length-map (by_place mine) named_by) ∙ ap length e)
+    nil_from_length mine (sym (length_permutation mine (by_place mine) (permutes place_key mine))
+    ∙ sym (length-map (by_place mine) named_by) ∙ ap length e)

@@ -12,7 +12,8 @@ pub looped : {X Y : Type 0} (p : X → Bool) (f : X → Y) (xs : List X)
     → flat_map (λ x. cond (p x) (f x ∷ []) []) xs ≡ map f (filter p xs)
 looped p f [] = refl
 looped p f (x ∷ xs) =
-    elim (p x) as (λ b. cond b (f x ∷ []) [] ++ flat_map (λ x. cond (p x) (f x ∷ []) []) xs ≡ map f (cond b (x ∷ filter p xs) (filter p xs)))
+    elim (p x) as (λ b. cond b (f x ∷ []) [] ++ flat_map (λ x. cond (p x) (f x ∷ []) []) xs
+    ≡ map f (cond b (x ∷ filter p xs) (filter p xs)))
     [ true ↦ ap (λ l. f x ∷ l) (looped p f xs) | false ↦ looped p f xs ]
 
 pub not_true : (b : Bool) → not b ≡ true → b ≡ false
@@ -47,7 +48,8 @@ nor false b = refl
 pub without_is : (ids : List ℤ) (rows : List Row)
     → without_all rows ids ≡ filter (λ r. not (list_any (λ id. has_rowid id r) ids)) rows
 without_is [] rows = sym (filter_all rows)
-without_is (id ∷ ids) rows = without_is ids (without_rowid id rows) ∙ filter-filter (λ r. not (list_any (λ id. has_rowid id r) ids)) (λ r. not (has_rowid id r)) rows
+without_is (id ∷ ids) rows = without_is ids (without_rowid id rows)
+    ∙ filter-filter (λ r. not (list_any (λ id. has_rowid id r) ids)) (λ r. not (has_rowid id r)) rows
     ∙ filter_same _ _ rows (λ r has. nor (has_rowid id r) (list_any (λ id. has_rowid id r) ids))
 
 is_eq_reverse : (o : Ordering) → is_eq (ordering_reverse o) ≡ is_eq o
@@ -82,7 +84,8 @@ found_not : (p : Row → Bool) (rows : List Row) (r : Row)
     → found p rows r ≡ false
 found_not p [] r none apart = refl
 found_not p (x ∷ rows) r none apart =
-    found_head (p x) p x rows r false (numbered_as x r apart.0 ∙ none.0) ∙ ap (λ b. b || found p rows r) (and-false (p x)) ∙ found_not p rows r none.1 apart.2
+    found_head (p x) p x rows r false (numbered_as x r apart.0 ∙ none.0) ∙ ap (λ b. b || found p rows r) (and-false (p x))
+    ∙ found_not p rows r none.1 apart.2
 
 pub found_once : (p : Row → Bool) (rows : List Row) (r : Row) → RowNumbersDiffer rows → Has rows r
     → found p rows r ≡ p r
@@ -95,14 +98,22 @@ found_once p (x ∷ rows) r apart (inl same) =
     own true h = refl
     own false h = h
 found_once p (x ∷ rows) r apart (inr has) =
-    found_head (p x) p x rows r false (numbered_as x r apart.0 ∙ eq_flips (rowid r) (rowid x) ∙ all_has (λ s. is_eq (value_cmp (rowid x) (rowid s)) ≡ false) rows r apart.1 has)
+    found_head (p x) p x rows r false (numbered_as x r apart.0 ∙ eq_flips (rowid r) (rowid x)
+    ∙ all_has (λ s. is_eq (value_cmp (rowid x) (rowid s)) ≡ false) rows r apart.1 has)
     ∙ ap (λ b. b || found p rows r) (and-false (p x)) ∙ found_once p rows r apart.2 has
 
 -- the rows stay apart where some go, and where one comes whose number is free
 pub apart_filter : (p : Row → Bool) (rows : List Row) → RowNumbersDiffer rows → RowNumbersDiffer (filter p rows)
 apart_filter p [] h = tt
 apart_filter p (x ∷ rows) h =
-    elim (p x) as (λ b. RowNumbersDiffer (cond b (x ∷ filter p rows) (filter p rows))) [ true ↦ (h.0, all-filter _ p rows h.1, apart_filter p rows h.2) | false ↦ apart_filter p rows h.2 ]
+    elim (p x) as (λ b. RowNumbersDiffer (cond b (x ∷ filter p rows) (filter p rows))) [
+      | true ↦ (
+        h.0,
+        all-filter _ p rows h.1,
+        apart_filter p rows h.2,
+      )
+      | false ↦ apart_filter p rows h.2
+    ]
 
 -- where its number is free, a row is put somewhere between the others
 pub put_splits : (new : Row) (rows : List Row) → is_taken rows new ≡ false
@@ -117,7 +128,8 @@ put_splits new (r ∷ rows) free = go (put_splits new rows both.1) (value_cmp (r
     Split old now = (front : List Row) × (back : List Row) × (old ≡ front ++ back) × (now ≡ front ++ new ∷ back)
 
     go : Split rows (put_row new rows) → (o : Ordering) → value_cmp (rowid r) (rowid new) ≡ o
-        → (front : List Row) × (back : List Row) × (r ∷ rows ≡ front ++ back) × (match_ordering o (r ∷ put_row new rows) (new ∷ rows) (new ∷ r ∷ rows) ≡ front ++ new ∷ back)
+        → (front : List Row) × (back : List Row) × (r ∷ rows ≡ front ++ back)
+        × (match_ordering o (r ∷ put_row new rows) (new ∷ rows) (new ∷ r ∷ rows) ≡ front ++ new ∷ back)
     go rest Less is = (r ∷ rest.0, rest.1, ap (λ l. r ∷ l) rest.2, ap (λ l. r ∷ l) rest.3)
     go rest Equal is = absurd (let e : is_eq Equal ≡ false = ap is_eq (sym is) ∙ both.0 in cc)
     go rest Greater is = ([], r ∷ rows, refl, refl)

@@ -34,23 +34,29 @@ module _ (n : List ℕ) where
 
   all_are : (has_first_name n || has_second_name n) ≡ list_any (λ (t : Table). same_name n t.name) portal_written.tables
   all_are =
-      six (is (codes "portal")) (is (codes "lecturer")) (is (codes "project")) (is (codes "student")) (is (codes "choice")) (is (codes "ranking")) (has_second_name n)
-      ∙ ap (λ r. is (codes "portal") || (is (codes "lecturer") || (is (codes "project") || (is (codes "student") || (is (codes "choice") || (is (codes "ranking") || r)))))) second_are
+      six (is (codes "portal")) (is (codes "lecturer")) (is (codes "project")) (is (codes "student")) (is (codes "choice"))
+      (is (codes "ranking")) (has_second_name n)
+      ∙ ap (λ r. is (codes "portal") || (is (codes "lecturer") || (is
+      (codes "project") || (is (codes "student") || (is (codes "choice") || (is (codes "ranking") || r)))))) second_are
 
 name_is : (names : Names) (n : List ℕ) → is_name names n ≡ has_name names n
 name_is All n = all_are n ∙ ap (λ (s : Schema). list_any (λ (t : Table). same_name n t.name) s.tables) (sym portal_as_written)
-name_is OfSecond n = second_are n ∙ ap (λ (s : Schema). list_any (λ (t : Table). same_name n t.name) (drop 6 s.tables)) (sym portal_as_written)
+name_is OfSecond n = second_are n ∙ ap (λ (s : Schema). list_any (λ (t : Table). same_name n t.name) (drop 6 s.tables))
+    (sym portal_as_written)
 
 pub named_is : (names : Names) (s : Schema)
     → (list_any (is_named_table names) s.tables || list_any (is_named_view names) s.views) ≡ has_names names s
-named_is names s = λ i. list_any (λ (t : Table). name_is names t.name i) s.tables || list_any (λ (v : View). name_is names v.name i && stands_for_table v.name v.foreign) s.views
+named_is names s = λ i. list_any (λ (t : Table). name_is names t.name i) s.tables || list_any
+    (λ (v : View). name_is names v.name i && stands_for_table v.name v.foreign) s.views
 
 -- a table has one of the names
 pub table_there : (names : Names) (s : Schema) (b : Bool) → b ≡ list_any (is_named_table names) s.tables → b ≡ true
     → b ≡ has_names names s
-table_there names s b is true_is = true_is ∙ sym (ap (λ x. x || list_any (is_named_view names) s.views) (sym is ∙ true_is)) ∙ named_is names s
+table_there names s b is true_is = true_is ∙ sym (ap (λ x. x || list_any (is_named_view names) s.views) (sym is ∙ true_is))
+    ∙ named_is names s
 
 -- none has, and perhaps a view
 pub view_there : (names : Names) (s : Schema) (a b : Bool) → a ≡ list_any (is_named_table names) s.tables → a ≡ false
     → b ≡ list_any (is_named_view names) s.views → b ≡ has_names names s
-view_there names s a b is false_is views = views ∙ sym (ap (λ x. x || list_any (is_named_view names) s.views) (sym is ∙ false_is)) ∙ named_is names s
+view_there names s a b is false_is views = views ∙ sym (ap (λ x. x || list_any (is_named_view names) s.views) (sym is ∙ false_is))
+    ∙ named_is names s

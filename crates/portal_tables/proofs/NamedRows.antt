@@ -12,8 +12,10 @@ use Rattle.std.specs.Prelude.{is_ok}
 there : (rows : List Row) (k : Key) (n : ℕ) (d : Row) → n < length rows
     → slice_cmp nat_cmp (first_cell (get_or rows n d)) k ≡ Equal → has (map first_cell rows) k ≡ true
 there [] k n d low equal = absurd (omega (arith, low))
-there (r ∷ rows) k zero d low equal = ap (λ b. b || has (map first_cell rows) k) (subst (λ x. equals k x ≡ true) (sym (exact_bytes (first_cell r) k equal)) (is_own k))
-there (r ∷ rows) k (suc n) d low equal = ap (λ b. equals k (first_cell r) || b) (there rows k n d (omega (arith, low)) equal) ∙ or-true (equals k (first_cell r))
+there (r ∷ rows) k zero d low equal = ap (λ b. b || has (map first_cell rows) k)
+    (subst (λ x. equals k x ≡ true) (sym (exact_bytes (first_cell r) k equal)) (is_own k))
+there (r ∷ rows) k (suc n) d low equal = ap (λ b. equals k (first_cell r) || b) (there rows k n d (omega (arith, low)) equal)
+    ∙ or-true (equals k (first_cell r))
 
 -- one that is at no place is not
 nowhere : (rows : List Row) (k : Key)
@@ -21,8 +23,10 @@ nowhere : (rows : List Row) (k : Key)
     → has (map first_cell rows) k ≡ false
 nowhere [] k other = refl
 nowhere (r ∷ rows) k other = elim (cases_Bool (equals k (first_cell r))) [
-  | inl same ↦ absurd (other 0 r (omega arith) (subst (λ x. slice_cmp nat_cmp x k ≡ Equal) (is_same k (first_cell r) same) (tied_itself nat_list_cmp_total k)))
-  | inr apart ↦ ap (λ b. b || has (map first_cell rows) k) apart ∙ nowhere rows k (λ i d low equal. other (suc i) d (omega (arith, low)) equal)
+  | inl same ↦ absurd (other 0 r (omega arith)
+      (subst (λ x. slice_cmp nat_cmp x k ≡ Equal) (is_same k (first_cell r) same) (tied_itself nat_list_cmp_total k)))
+  | inr apart ↦ ap (λ b. b || has (map first_cell rows) k) apart
+      ∙ nowhere rows k (λ i d low equal. other (suc i) d (omega (arith, low)) equal)
 ]
 
 -- the answer of a binary search is whether the key is there

@@ -22,7 +22,10 @@ first_of [] (u ∷ us) vs h = absurd h
 first_of (t ∷ ts) (u ∷ us) vs h = (h.0, first_of ts us vs h.1)
 
 six_own : (s : Schema) → AllZip SameTable (take 6 s.tables) first_written.tables → s.views ≡ [] → HasFirstSchema s
-six_own s like none = record { tables = subst (λ (f : Schema). AllZip SameTable (take 6 s.tables) f.tables) (sym first_as_written) like; no_views = none }
+six_own s like none = record {
+  tables = subst (λ (f : Schema). AllZip SameTable (take 6 s.tables) f.tables) (sym first_as_written) like;
+  no_views = none;
+}
 
 -- all tables are read as those of the first round
 pub current_own : (s : Schema) → IsCurrentSchema s → HasFirstSchema s
@@ -46,7 +49,8 @@ round_own Second s h = current_own s h
 -- what a crash leaves has one schema, whoever opens it
 pub one_schema : (left found : Database) → IsDatabase left → IsDatabase found → found.trees ≡ left.trees
     → found.schema ≡ left.schema
-one_schema left found was is same = lists_once _ found.schema left.schema is.lists (subst (λ (t : Trees). IsSound left.schema t) (sym same) was).lists
+one_schema left found was is same = lists_once _ found.schema left.schema is.lists
+    (subst (λ (t : Trees). IsSound left.schema t) (sym same) was).lists
 
 pub own_again : (P : Schema → Type 0) (left found : Database) → IsDatabase left → IsDatabase found
     → found.trees ≡ left.trees → P left.schema → P found.schema

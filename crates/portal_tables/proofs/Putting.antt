@@ -26,14 +26,16 @@ same_text v k s e = ap is_eq (value_cmp_total.congr v (Words k) (Words s) ((Equa
 -- the rows of another key stay where those of one key go
 pub kept_key : (key s : Key) (rows : List Row) → equals key s ≡ false
     → of_key key (filter (λ r. not (has_text 1 s r)) rows) ≡ of_key key rows
-kept_key key s rows other = filter-filter (has_text 1 key) (λ r. not (has_text 1 s r)) rows ∙ filter_same _ _ rows (λ r has. go r (has_text 1 key r) refl)
+kept_key key s rows other = filter-filter (has_text 1 key) (λ r. not (has_text 1 s r)) rows
+    ∙ filter_same _ _ rows (λ r has. go r (has_text 1 key r) refl)
   where
     go : (r : Row) (b : Bool) → has_text 1 key r ≡ b → (not (has_text 1 s r) && has_text 1 key r) ≡ has_text 1 key r
     go r true e = rw (e, same_text (column r 1) key s e ∙ other) refl
     go r false e = rw e (and-false (not (has_text 1 s r)))
 
 pub none_left : (s : Key) (rows : List Row) → of_key s (filter (λ r. not (has_text 1 s r)) rows) ≡ []
-none_left s rows = filter-filter (has_text 1 s) (λ r. not (has_text 1 s r)) rows ∙ filter_none _ rows (all_of _ (λ r. not-and_self (has_text 1 s r)) rows)
+none_left s rows = filter-filter (has_text 1 s) (λ r. not (has_text 1 s r)) rows
+    ∙ filter_none _ rows (all_of _ (λ r. not-and_self (has_text 1 s r)) rows)
 
 -- once the owner's rows are gone nothing is put
 put_begun : (tree : ℕ) (owner : Key) (first now : Database) → Clears tree owner first now
@@ -46,12 +48,14 @@ put_begun tree owner first now cleared own apart =
       apart = drops_apart tree _ first now drops apart;
       tables = drops.others;
       others = λ key other. ap (of_key key) drops.rows ∙ kept_key key owner _ other;
-      places = subst (λ rows. IsPermutation (map placed rows) []) (sym (ap (of_key owner) drops.rows ∙ none_left owner _)) (IsPermutation-refl []);
+      places = subst (λ rows. IsPermutation (map placed rows) []) (sym (ap (of_key owner) drops.rows ∙ none_left owner _))
+          (IsPermutation-refl []);
     }
 
 split_key : (key : Key) (front back : List Row) (new : Row) (b : Bool) → has_text 1 key new ≡ b
     → of_key key (front ++ new ∷ back) ≡ of_key key front ++ cond b (new ∷ of_key key back) (of_key key back)
-split_key key front back new b e = filter-append (has_text 1 key) front (new ∷ back) ∙ ap (λ c. of_key key front ++ cond c (new ∷ of_key key back) (of_key key back)) e
+split_key key front back new b e = filter-append (has_text 1 key) front (new ∷ back)
+    ∙ ap (λ c. of_key key front ++ cond c (new ∷ of_key key back) (of_key key back)) e
 
 numbered_more : (n : ℕ) (done : List Key) (k : Key)
     → numbered n (done ++ k ∷ []) ≡ numbered n done ++ (length done + n, k) ∷ []
@@ -69,9 +73,12 @@ more_places front back new done k e was =
     map-append placed front (new ∷ back) ∙ ap (λ x. map placed front ++ x ∷ map placed back) e in
     let before : IsPermutation (map placed front ++ map placed back) (numbered 1 done) =
     subst (λ l. IsPermutation l (numbered 1 done)) (map-append placed front back) was in
-    let ahead : IsPermutation (p ∷ numbered 1 done) (numbered 1 done ++ p ∷ []) = IsPermutation-sym _ _ (IsPermutation-to_front (numbered 1 done) p) in
-    subst (λ l. IsPermutation l (numbered 1 (done ++ k ∷ []))) (sym split) (subst (λ l. IsPermutation (map placed front ++ p ∷ map placed back) l) (sym (numbered_more 1 done k))
-    (IsPermutation-trans _ _ _ (IsPermutation-middle (map placed front) p (map placed back)) (IsPermutation-trans _ _ _ (IsPermutation-cons p _ _ before) ahead)))
+    let ahead : IsPermutation (p ∷ numbered 1 done) (numbered 1 done ++ p ∷ []) =
+    IsPermutation-sym _ _ (IsPermutation-to_front (numbered 1 done) p) in
+    subst (λ l. IsPermutation l (numbered 1 (done ++ k ∷ []))) (sym split)
+    (subst (λ l. IsPermutation (map placed front ++ p ∷ map placed back) l) (sym (numbered_more 1 done k))
+    (IsPermutation-trans _ _ _ (IsPermutation-middle (map placed front) p (map placed back))
+    (IsPermutation-trans _ _ _ (IsPermutation-cons p _ _ before) ahead)))
 
 -- the owner's rows of a table are the places of a list, and those of the others are as they were
 record Listed (owner : Key) (list : List Key) (first now : List Row) : Type 0 where
@@ -94,10 +101,12 @@ listed_more owner k done n first mid at was free =
     ap (of_key owner) split.2 ∙ filter-append (has_text 1 owner) front back in
     record {
       others = λ key other.
-          ap (of_key key) split.3 ∙ split_key key front back new false (text_equals owner key ∙ is_sym owner key ∙ other) ∙ sym (filter-append (has_text 1 key) front back)
+          ap (of_key key) split.3 ∙ split_key key front back new false (text_equals owner key ∙ is_sym owner key ∙ other)
+          ∙ sym (filter-append (has_text 1 key) front back)
           ∙ sym (ap (of_key key) split.2) ∙ was.others key other;
       places = subst (λ l. IsPermutation (map placed l) (numbered 1 (done ++ k ∷ []))) (sym mine)
-          (more_places (of_key owner front) (of_key owner back) new done k (ap (λ m. (m, k)) at) (subst (λ l. IsPermutation (map placed l) (numbered 1 done)) before was.places));
+          (more_places (of_key owner front) (of_key owner back) new done k (ap (λ m. (m, k)) at)
+          (subst (λ l. IsPermutation (map placed l) (numbered 1 done)) before was.places));
     }
 
 -- and all the rows of a list
@@ -120,7 +129,8 @@ put_whole : (tree : ℕ) (owner : Key) (list : List Key) (first mid now : Databa
 put_whole tree owner list first mid now puts adds own apart =
     let was = puts own apart in
     let put = adds (subst IsCurrentSchema (sym was.schema_is) own) in
-    let listed = listed_all owner [] list 1 (first.trees tree) (mid.trees tree) refl (record { others = was.others; places = was.places }) put.free in
+    let listed = listed_all owner [] list 1 (first.trees tree) (mid.trees tree) refl
+    (record { others = was.others; places = was.places }) put.free in
     record {
       schema_is = put.schema_is ∙ was.schema_is;
       sound = put.sound (λ _. was.sound);
@@ -139,7 +149,9 @@ cells_next cells_of rows x owner k keys i place at within equals cell was =
     let cell_of : ℕ × Key → Row = λ p. place_cells owner (pos p.0) p.1 in
     let at_end : place + 1 ≡ length (take i keys) + 1 = omega (arith, at, length-take-le i keys (omega (arith, within))) in
     map-append cells_of rows (x ∷ []) ∙ ap₂ (λ l c. l ++ c ∷ []) was (cell ∙ ap (λ n. place_cells owner (pos n) k) at_end)
-    ∙ sym (ap (map cell_of) (numbered_more 1 (take i keys) k) ∙ map-append cell_of (numbered 1 (take i keys)) ((length (take i keys) + 1, k) ∷ [])) ∙ ap (list_cells owner) (sym (next_item keys i k equals within))
+    ∙ sym (ap (map cell_of) (numbered_more 1 (take i keys) k)
+    ∙ map-append cell_of (numbered 1 (take i keys)) ((length (take i keys) + 1, k) ∷ []))
+    ∙ ap (list_cells owner) (sym (next_item keys i k equals within))
 
 abbrev pair_key : ℕ × Key → Key
 pair_key p = p.0 ∷ []
@@ -158,17 +170,20 @@ numbers_rise n ks = subst Rise (map-map one (λ (p : ℕ × Key). p.0) (numbered
 -- rows that are these places, in whatever order, are the list, and it has no gap
 module _ (rows : List Row) (list : List Key) (same : IsPermutation (map placed rows) (numbered 1 list)) where
   in_place : map placed (by_place rows) ≡ numbered 1 list
-  in_place = sym (put_all_map place_key pair_key placed (λ r. refl) rows []) ∙ sym (in_order pair_key (map placed rows) (numbered 1 list) same (numbers_rise 1 list))
+  in_place = sym (put_all_map place_key pair_key placed (λ r. refl) rows [])
+      ∙ sym (in_order pair_key (map placed rows) (numbered 1 list) same (numbers_rise 1 list))
 
   pub list_is : list_in_order rows ≡ list
   list_is = map_twice (λ (p : ℕ × Key). p.1) placed (by_place rows) ∙ ap (map (λ (p : ℕ × Key). p.1)) in_place ∙ names_in 1 list
 
   pub whole_is : IsWhole rows
-  whole_is = subst (CountUp 1) (sym (map_twice (λ (p : ℕ × Key). p.0) placed (by_place rows) ∙ ap (map (λ (p : ℕ × Key). p.0)) in_place)) (count_up 1 list)
+  whole_is = subst (CountUp 1) (sym (map_twice (λ (p : ℕ × Key). p.0) placed (by_place rows) ∙ ap (map (λ (p : ℕ × Key). p.0)) in_place))
+      (count_up 1 list)
 
 -- the same, of steps of a transaction
 pub list_put : (tree : ℕ) (owner : Key) (list : List Key) (old mid new : State) → Made (Clears tree owner) old mid
     → GoesOn (Adds tree (list_cells owner list)) mid new
     → GoesOn (PutsList tree owner list) old new
 list_put tree owner list old mid new cleared added =
-    goes_both _ _ _ old mid new (made_goes _ old mid cleared) added (λ c a. put_whole tree owner list old.now mid.now new.now (put_begun tree owner old.now mid.now c) a)
+    goes_both _ _ _ old mid new (made_goes _ old mid cleared) added
+    (λ c a. put_whole tree owner list old.now mid.now new.now (put_begun tree owner old.now mid.now c) a)

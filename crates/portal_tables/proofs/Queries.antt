@@ -26,8 +26,14 @@ listed tree keys tests project db params rows h =
     let f = passes tests params in
     let show = λ (r : Row). output q (params ∷ r ∷ []) in
     let staged : a.staged ≡ map (λ r. params ∷ r ∷ []) (filter f (db tree)) = a.grouped ∙ looped f (λ r. params ∷ r ∷ []) (db tree) in
-    let kept : a.kept ≡ map show (filter f (db tree)) = a.distinct ∙ ap (map (output q)) staged ∙ map-map (output q) (λ r. params ∷ r ∷ []) (filter f (db tree)) in
-    let shown : show ≡ (λ r. (columns keys r, shown_as project params r)) = λ i r. ((ap (λ terms. shown_as terms params r) (map-map (λ (k : Term × Key). k.0) (λ at. (col 1 at, ascending Binary)) keys) ∙ columns_are keys params r) i, shown_as project params r) in
+    let kept : a.kept ≡ map show (filter f (db tree)) = a.distinct ∙ ap (map (output q)) staged
+    ∙ map-map (output q) (λ r. params ∷ r ∷ []) (filter f (db tree)) in
+    let shown : show ≡ (λ r. (columns keys r, shown_as project params r)) =
+    λ i r. (
+      (ap (λ terms. shown_as terms params r) (map-map (λ (k : Term × Key). k.0) (λ at. (col 1 at, ascending Binary)) keys)
+          ∙ columns_are keys params r) i,
+      shown_as project params r,
+    ) in
     record {
       keyed = a.ordered;
       same = subst (λ k. IsPermutation k a.ordered) (kept ∙ ap (λ s. map s (filter f (db tree))) shown) a.same;

@@ -59,7 +59,12 @@ answers_still q a b rows same on h =
     let full = timed (given q) h.0.formats h.1.now in
     let it = subst (ShowsRows a a sql h.0 full rows) none h.2 in (
       h.0,
-      record { is = subst (λ (d : Database). understood d.schema sql ≡ Ok h.0) (sym same) h.1.is; whole = h.1.whole; given = h.1.given; now = h.1.now },
+      record {
+        is = subst (λ (d : Database). understood d.schema sql ≡ Ok h.0) (sym same) h.1.is;
+        whole = h.1.whole;
+        given = h.1.given;
+        now = h.1.now;
+      },
       subst (ShowsRows b b sql h.0 full rows) (sym none)
           (it.0, subst (λ (d : Database). IsSourceOf (reads_listing d.schema sql) d it.0) (sym same) it.1, it.2, unchanged b on),
     )
@@ -77,7 +82,12 @@ refuses_still q a b e same limit on other (inr h) =
     let it = subst (FailsToShow a a sql h.0 full e) none h.2 in
     inr (
       h.0,
-      record { is = subst (λ (d : Database). understood d.schema sql ≡ Ok h.0) (sym same) h.1.is; whole = h.1.whole; given = h.1.given; now = h.1.now },
+      record {
+        is = subst (λ (d : Database). understood d.schema sql ≡ Ok h.0) (sym same) h.1.is;
+        whole = h.1.whole;
+        given = h.1.given;
+        now = h.1.now;
+      },
       subst (FailsToShow b b sql h.0 full e) (sym none) (
         it.0,
         subst (λ (d : Database). IsSourceOf (reads_listing d.schema sql) d it.0) (sym same) it.1,

@@ -29,15 +29,22 @@ above_all m [] h = tt
 above_all m (r ∷ rs) h =
     let p = and_parts _ _ h in
     let is = whole (Some m) (column r 0) p.0 in
-    let one = after m (column r 0) p.0 in
-    (one, all_weaker _ (λ v. value_cmp (Int m) v ≡ Less) (λ v. value_cmp_total.trans (Int m) (column r 0) v one) (ids rs) (subst (λ v. AllByRecursion (λ w. value_cmp v w ≡ Less) (ids rs)) (sym is) (above_all (id_in (column r 0)) rs p.1)))
+    let one = after m (column r 0) p.0 in (
+      one,
+      all_weaker _ (λ v. value_cmp (Int m) v ≡ Less) (λ v. value_cmp_total.trans (Int m) (column r 0) v one) (ids rs)
+          (subst (λ v. AllByRecursion (λ w. value_cmp v w ≡ Less) (ids rs)) (sym is) (above_all (id_in (column r 0)) rs p.1)),
+    )
 
 distinct : (last : Option ℤ) (rows : List Row) → rises last rows ≡ true → IsDistinct same (ids rows)
 unfolding IsDistinct
 distinct last [] h = tt
 distinct last (r ∷ rs) h =
-    let p = and_parts _ _ h in
-    (all_weaker _ (λ v. same (column r 0) v ≡ false) (λ v less. ap is_eq less) (ids rs) (subst (λ v. AllByRecursion (λ w. value_cmp v w ≡ Less) (ids rs)) (sym (whole last (column r 0) p.0)) (above_all (id_in (column r 0)) rs p.1)), distinct (Some (id_in (column r 0))) rs p.1)
+    let p = and_parts _ _ h in (
+      all_weaker _ (λ v. same (column r 0) v ≡ false) (λ v less. ap is_eq less) (ids rs)
+          (subst (λ v. AllByRecursion (λ w. value_cmp v w ≡ Less) (ids rs)) (sym (whole last (column r 0) p.0))
+          (above_all (id_in (column r 0)) rs p.1)),
+      distinct (Some (id_in (column r 0))) rs p.1,
+    )
 
 abbrev IsWhole : Value → Type 0
 IsWhole v = v ≡ Int (id_in v)
@@ -59,5 +66,6 @@ apart_of table shown h up =
     map-map first (λ r. (columns (0 ∷ []) r, columns (0 ∷ []) r)) (filter every table) ∙ ap ids (filter_all table) in
     let here : map first h.keyed ≡ ids shown = sym (ap ids h.is ∙ map-map (λ r. column r 0) (λ (k : Row × Row). k.1) h.keyed) in
     let moved : IsPermutation (ids table) (ids shown) = subst₂ IsPermutation there here (IsPermutation-map first _ h.keyed h.same) in
-    build table (IsDistinct-IsPermutation same eq_flips (ids shown) (ids table) (IsPermutation-sym (ids table) (ids shown) moved) (distinct None shown up))
+    build table (IsDistinct-IsPermutation same eq_flips (ids shown) (ids table) (IsPermutation-sym (ids table) (ids shown) moved)
+    (distinct None shown up))
     (all_permuted IsWhole (ids shown) (ids table) (IsPermutation-sym (ids table) (ids shown) moved) (all_whole None shown up))

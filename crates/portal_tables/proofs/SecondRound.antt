@@ -18,7 +18,12 @@ stands_without : (key k : Key) (rows : List Row) → equals k key ≡ false
     → stands k (filter (λ r. not (has_text 1 key r)) rows) ≡ stands k rows
 stands_without key k rows other =
     any-filter_same (λ r. equals k (row_key r)) (λ r. not (has_text 1 key r)) true
-    (λ r is. elim (cases_Bool (has_text 1 key r)) [ inl hit ↦ absurd (let e : true ≡ false = sym is ∙ ap (λ v. equals k (bytes v)) (text_there 1 key r hit) ∙ other in cc) | inr missed ↦ ap not missed ]) rows
+    (λ r is. elim (cases_Bool (has_text 1 key r)) [
+      | inl hit ↦ absurd
+          (let e : true ≡ false = sym is ∙ ap (λ v. equals k (bytes v)) (text_there 1 key r hit) ∙ other in cc)
+      | inr missed ↦ ap not
+          missed
+    ]) rows
 
 -- a lecturer's row in place of any
 pub rank_put : (key : Key) (first mid now : Database) → Clears ranked2_tree key first mid
@@ -40,7 +45,8 @@ rank_put key first mid now cleared adds own apart =
       apart = puts_apart ranked2_tree _ mid now put (drops_apart ranked2_tree _ first mid drops apart);
       tables = keeps_then ranked2_tree first mid now drops.others put.others;
       known = λ k.
-          ap (λ l. has (map row_key l) k) put.rows ∙ any_map (equals k) row_key (put_row row rows) ∙ sym (list_any-IsPermutation (λ r. equals k (row_key r)) (row ∷ rows) (put_row row rows) (put_permutes row rows put.free.0))
+          ap (λ l. has (map row_key l) k) put.rows ∙ any_map (equals k) row_key (put_row row rows)
+          ∙ sym (list_any-IsPermutation (λ r. equals k (row_key r)) (row ∷ rows) (put_row row rows) (put_permutes row rows put.free.0))
           ∙ ap (λ l. equals k key || stands k l) drops.rows ∙ both k ∙ sym (ap (λ b. equals k key || b) (any_map (equals k) row_key old));
     }
 
@@ -57,5 +63,6 @@ places_put pairs first mid now dropped adds own apart =
       sound = put.sound (λ _. drops.sound);
       apart = puts_apart assigned2_tree _ mid now put (drops_apart assigned2_tree _ first mid drops apart);
       tables = keeps_then assigned2_tree first mid now drops.others put.others;
-      rows = put.rows ∙ ap (λ rows. with_rows rows (map pair_new pairs)) (drops.rows ∙ filter_none (λ r. not (every r)) (first.trees assigned2_tree) (all_of _ (λ r. refl) (first.trees assigned2_tree)));
+      rows = put.rows ∙ ap (λ rows. with_rows rows (map pair_new pairs))
+          (drops.rows ∙ filter_none (λ r. not (every r)) (first.trees assigned2_tree) (all_of _ (λ r. refl) (first.trees assigned2_tree)));
     }

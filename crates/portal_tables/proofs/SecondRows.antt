@@ -30,11 +30,13 @@ pub ranked_found : (db : Database) → IsCurrentSchema db.schema → IsDatabase 
 ranked_found db own sound k shown lists =
     let table = db.trees ranked2_tree in
     any_there shown
-    ∙ sym (list_any-IsPermutation (λ _. true) (map (columns (1 ∷ [])) (filter (has_text 1 k) table)) shown (permuted _ _ _ table shown lists))
+    ∙ sym (list_any-IsPermutation (λ _. true) (map (columns (1 ∷ [])) (filter (has_text 1 k) table)) shown
+    (permuted _ _ _ table shown lists))
     ∙ any_map (λ _. true) (columns (1 ∷ [])) (filter (has_text 1 k) table)
     ∙ filtered_any (λ _. true) (has_text 1 k) table
     ∙ any_alike (λ r. has_text 1 k r && true) (λ r. equals k (row_key r)) table
-    (all_weaker (λ r. IsText (column r 1)) _ (λ r text. and-true (has_text 1 k r) ∙ key_test k r text ∙ is_sym (row_key r) k) table (key_texts db OfRanked own sound))
+    (all_weaker (λ r. IsText (column r 1)) _ (λ r text. and-true (has_text 1 k r) ∙ key_test k r text ∙ is_sym (row_key r) k) table
+    (key_texts db OfRanked own sound))
     ∙ sym (any_map (equals k) row_key table)
 
 -- the place of a student in the second round
@@ -49,7 +51,8 @@ alone P [] few h = tt
 alone P (a ∷ []) few h = (h, tt)
 alone P (a ∷ b ∷ rows) few h = absurd (omega (arith, few))
 
-module _ (db : Database) (own : IsCurrentSchema db.schema) (sound : IsDatabase db) (k : Key) (shown : List Row) (lists : ListsBy (1 ∷ []) (has_text 1 k) (columns (1 ∷ 2 ∷ [])) (db.trees assigned2_tree) shown) where
+module _ (db : Database) (own : IsCurrentSchema db.schema) (sound : IsDatabase db) (k : Key) (shown : List Row)
+    (lists : ListsBy (1 ∷ []) (has_text 1 k) (columns (1 ∷ 2 ∷ [])) (db.trees assigned2_tree) shown) where
   abbrev mine : List Row
   mine = of_key k (db.trees assigned2_tree)
 
@@ -59,13 +62,16 @@ module _ (db : Database) (own : IsCurrentSchema db.schema) (sound : IsDatabase d
   first_mine : option_map placed_project (first_of mine) ≡ second_placement db.trees k
   first_mine =
       let table = db.trees assigned2_tree in
-      ap (λ rows. option_map placed_project (first_of rows)) (filter_alike (has_text 1 k) (λ a. equals (row_key a) k) table (all_weaker (λ r. IsText (column r 1)) _ (key_test k) table (key_texts db OfPlaces own sound)))
+      ap (λ rows. option_map placed_project (first_of rows))
+      (filter_alike (has_text 1 k) (λ a. equals (row_key a) k) table
+      (all_weaker (λ r. IsText (column r 1)) _ (key_test k) table (key_texts db OfPlaces own sound)))
       ∙ ap (option_map placed_project) (sym (find_is (λ a. equals (row_key a) k) table))
 
   pub place_found : (o : Option Key) → as_list o ≡ map shown_name shown → o ≡ second_placement db.trees k
   place_found o only =
       let named : IsPermutation (as_list o) (map placed_project mine) =
-      IsPermutation-sym _ _ (subst₂ IsPermutation (map-map shown_name (columns (1 ∷ 2 ∷ [])) mine) (sym only) (IsPermutation-map shown_name _ shown same)) in
+      IsPermutation-sym _ _ (subst₂ IsPermutation (map-map shown_name (columns (1 ∷ 2 ∷ [])) mine) (sym only)
+      (IsPermutation-map shown_name _ shown same)) in
       sym (first_back o) ∙ ap first_of (sym (only_one o (map placed_project mine) named)) ∙ first_map placed_project mine ∙ first_mine
 
   -- where there is no more than one row, and it names a key
@@ -74,5 +80,6 @@ module _ (db : Database) (own : IsCurrentSchema db.schema) (sound : IsDatabase d
   place_fine key once = (
     subst (λ n. n ≤ 1) (sym (length_permutation _ shown same ∙ length-map mine (columns (1 ∷ 2 ∷ [])))) once,
     all_permuted (λ c. is_key (shown_name c) ≡ true) _ shown same
-        (all_map (λ c. is_key (shown_name c) ≡ true) (columns (1 ∷ 2 ∷ [])) mine (alone (λ p. is_key p ≡ true) mine once (subst (λ o. IfSome o (λ p. is_key p ≡ true)) (sym first_mine) key))),
+        (all_map (λ c. is_key (shown_name c) ≡ true) (columns (1 ∷ 2 ∷ [])) mine
+        (alone (λ p. is_key p ≡ true) mine once (subst (λ o. IfSome o (λ p. is_key p ≡ true)) (sym first_mine) key))),
   )

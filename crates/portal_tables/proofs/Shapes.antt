@@ -7,7 +7,7 @@ use Rattle.portal_tables.proofs.Base.{are_typed, are_present, is_of, is_null, In
 use Rattle.portal_tables.proofs.Base.{list_table, lecturer_tree, project_tree, student_tree, ranked2_tree}
 use Rattle.portal_tables.proofs.Base.{assigned2_tree, lecturer_schema, project_schema, student_schema, ranked2}
 use Rattle.portal_tables.proofs.Base.{assigned2, round_of, names, tree_of, table_round, table_tree, Lists, Choices}
-use Rattle.portal_tables.proofs.Base.{Rankings, SecondChoices, SecondRankings, OfRoll, OfLists, OfRanked, OfPlaces}
+use Rattle.portal_tables.proofs.Base.{Rankings, First, Second, OfRoll, OfLists, OfRanked, OfPlaces}
 use Rattle.portal_tables.proofs.Base.{Lecturers, Projects, Students, Table, Round, HasFirstSchema, HasRound}
 use Rattle.portal_tables.proofs.Base.{RowNumbersDiffer, has_text, lecturer_cells, place_cells, row_key, Named}
 use Rattle.sqlite.specs.Kind.{Kind}
@@ -77,15 +77,20 @@ pub record IsPlace (r : Row) : Type 0 where
 next : {X : Type 0} {of : X → Value} (kind : Kind)
     → ((v : Value) → is_of kind v ≡ true → not (is_null v) ≡ true → (x : X) × (v ≡ of x))
     → (P : Row → Type 0) (row : Row → Row) (name : List ℕ) (at : ℕ) (cs : List Column)
-    → ((x : Row) → are_present None at (column_of name kind true ∷ cs) (row x) ≡ (not (is_null (column x 0)) && are_present None (at + 1) cs (row x)))
-    → ((x : X) (rest : Row) → are_typed None (at + 1) cs rest ≡ true → are_present None (at + 1) cs (row (of x ∷ rest)) ≡ true → P (row (of x ∷ rest)))
-    → (cells : Row) → are_typed None at (column_of name kind true ∷ cs) cells ≡ true → are_present None at (column_of name kind true ∷ cs) (row cells) ≡ true → P (row cells)
-next kind cell P row name at cs is go [] typed present = let none = (and_parts false (are_present None (at + 1) cs (row [])) (sym (is []) ∙ present)).0 in absurd (cc)
+    → ((x : Row) → are_present None at (column_of name kind true ∷ cs) (row x)
+    ≡ (not (is_null (column x 0)) && are_present None (at + 1) cs (row x)))
+    → ((x : X) (rest : Row) → are_typed None (at + 1) cs rest ≡ true → are_present None (at + 1) cs (row (of x ∷ rest)) ≡ true
+    → P (row (of x ∷ rest)))
+    → (cells : Row) → are_typed None at (column_of name kind true ∷ cs) cells ≡ true
+    → are_present None at (column_of name kind true ∷ cs) (row cells) ≡ true → P (row cells)
+next kind cell P row name at cs is go [] typed present = let none =
+    (and_parts false (are_present None (at + 1) cs (row [])) (sym (is []) ∙ present)).0 in absurd (cc)
 next kind cell P row name at cs is go (v ∷ vs) typed present =
     let two = and_parts (is_of kind v) (are_typed None (at + 1) cs vs) typed in
     let both = and_parts (not (is_null v)) (are_present None (at + 1) cs (row (v ∷ vs))) (sym (is (v ∷ vs)) ∙ present) in
     let it = cell v two.0 both.0 in
-    subst (λ x. P (row (x ∷ vs))) (sym it.1) (go it.0 vs two.1 (subst (λ x. are_present None (at + 1) cs (row (x ∷ vs)) ≡ true) it.1 both.1))
+    subst (λ x. P (row (x ∷ vs))) (sym it.1)
+    (go it.0 vs two.1 (subst (λ x. are_present None (at + 1) cs (row (x ∷ vs)) ≡ true) it.1 both.1))
 
 -- what the rules of these columns say of a row with a number
 abbrev Forms : (Row → Type 0) → List Column → Type 0
@@ -101,9 +106,19 @@ lecturer_form n =
     next Text text_cell IsLecturerRow (λ x. Int n ∷ x) (codes "key") 0 (drop 1 cs) (λ x. refl) (λ key.
     next Text text_cell IsLecturerRow (λ x. Int n ∷ Words key ∷ x) (codes "name") 1 (drop 2 cs) (λ x. refl) (λ name.
     next Text text_cell IsLecturerRow (λ x. Int n ∷ Words key ∷ Words name ∷ x) (codes "code") 2 (drop 3 cs) (λ x. refl) (λ code.
-    next Integer number_cell IsLecturerRow (λ x. Int n ∷ Words key ∷ Words name ∷ Words code ∷ x) (codes "capacity") 3 (drop 4 cs) (λ x. refl) (λ capacity.
-    next Integer number_cell IsLecturerRow (λ x. Int n ∷ Words key ∷ Words name ∷ Words code ∷ Int capacity ∷ x) (codes "ranked") 4 [] (λ x. refl) (λ ranked rest typed present.
-    record { number = n; key = key; name = name; code = code; capacity = capacity; ranked = ranked; is = ap (λ x. Int n ∷ Words key ∷ Words name ∷ Words code ∷ Int capacity ∷ Int ranked ∷ x) (none_more 5 rest typed) })))))
+    next Integer number_cell IsLecturerRow (λ x. Int n ∷ Words key ∷ Words name ∷ Words code ∷ x) (codes "capacity") 3 (drop 4 cs)
+    (λ x. refl) (λ capacity.
+    next Integer number_cell IsLecturerRow (λ x. Int n ∷ Words key ∷ Words name ∷ Words code ∷ Int capacity ∷ x) (codes "ranked") 4 []
+    (λ x. refl) (λ ranked rest typed present.
+    record {
+      number = n;
+      key = key;
+      name = name;
+      code = code;
+      capacity = capacity;
+      ranked = ranked;
+      is = ap (λ x. Int n ∷ Words key ∷ Words name ∷ Words code ∷ Int capacity ∷ Int ranked ∷ x) (none_more 5 rest typed);
+    })))))
 
 -- what may stand where the last column of a student is
 last_cell : (name : List ℕ) (at : ℕ) (cells : Row) → are_typed None at (column_of name Text false ∷ []) cells ≡ true
@@ -117,7 +132,8 @@ student_form n =
     let cs = (student_schema 6).columns in
     next Text text_cell IsStudentRow (λ x. Int n ∷ x) (codes "key") 0 (drop 1 cs) (λ x. refl) (λ key.
     next Text text_cell IsStudentRow (λ x. Int n ∷ Words key ∷ x) (codes "name") 1 (drop 2 cs) (λ x. refl) (λ name.
-    next Text text_cell IsStudentRow (λ x. Int n ∷ Words key ∷ Words name ∷ x) (codes "code") 2 (drop 3 cs) (λ x. refl) (λ code rest typed present.
+    next Text text_cell IsStudentRow (λ x. Int n ∷ Words key ∷ Words name ∷ x) (codes "code") 2 (drop 3 cs) (λ x. refl)
+    (λ code rest typed present.
     let end = last_cell (codes "assigned") 3 rest typed in
     record { number = n; key = key; name = name; code = code; last = rest; is = refl; few = end.0; assigned = end.1 })))
 
@@ -127,7 +143,8 @@ project_form n =
     let cs = (project_schema 4).columns in
     let HasLecturer : Row → Type 0 = λ r. IsText (column r 2) in
     next Text text_cell HasLecturer (λ x. Int n ∷ x) (codes "key") 0 (drop 1 cs) (λ x. refl) (λ key.
-    next Text text_cell HasLecturer (λ x. Int n ∷ Words key ∷ x) (codes "lecturer") 1 (drop 2 cs) (λ x. refl) (λ lecturer rest typed present. (lecturer, refl)))
+    next Text text_cell HasLecturer (λ x. Int n ∷ Words key ∷ x) (codes "lecturer") 1 (drop 2 cs) (λ x. refl)
+    (λ lecturer rest typed present. (lecturer, refl)))
 
 place_form : (k l m : List ℕ)
     → Forms IsPlace (column_of k Text true ∷ column_of l Integer true ∷ column_of m Text true ∷ [])
@@ -135,7 +152,13 @@ place_form k l m n =
     next Text text_cell IsPlace (λ x. Int n ∷ x) k 0 (column_of l Integer true ∷ column_of m Text true ∷ []) (λ x. refl) (λ owner.
     next Integer number_cell IsPlace (λ x. Int n ∷ Words owner ∷ x) l 1 (column_of m Text true ∷ []) (λ x. refl) (λ place.
     next Text text_cell IsPlace (λ x. Int n ∷ Words owner ∷ Int place ∷ x) m 2 [] (λ x. refl) (λ item rest typed present.
-    record { number = n; owner = owner; place = place; item = item; is = ap (λ x. Int n ∷ Words owner ∷ Int place ∷ Words item ∷ x) (none_more 3 rest typed) })))
+    record {
+      number = n;
+      owner = owner;
+      place = place;
+      item = item;
+      is = ap (λ x. Int n ∷ Words owner ∷ Int place ∷ Words item ∷ x) (none_more 3 rest typed);
+    })))
 
 -- the rows of a table, by what its rules say of them
 formed : (P : Row → Type 0) (cs : List Column) → Forms P cs → (rows : List Row) → RowNumbersDiffer rows
@@ -144,7 +167,8 @@ formed : (P : Row → Type 0) (cs : List Column) → Forms P cs → (rows : List
 formed P cs form [] apart t p = tt
 formed P cs form ([] ∷ rows) apart t p = absurd (let e = apart.0 in cc)
 formed P cs form ((v ∷ cells) ∷ rows) apart t p = (
-  subst (λ x. P (x ∷ cells)) (sym apart.0) (form (id_in v) cells (and_parts _ _ t.0).0 (subst (λ x. are_present None 0 cs (x ∷ cells) ≡ true) apart.0 p.0)),
+  subst (λ x. P (x ∷ cells)) (sym apart.0)
+      (form (id_in v) cells (and_parts _ _ t.0).0 (subst (λ x. are_present None 0 cs (x ∷ cells) ≡ true) apart.0 p.0)),
   formed P cs form rows apart.2 t.1 p.1,
 )
 
@@ -167,11 +191,11 @@ at_table : (t : Named) (o : Open) (rule : Constraint) (db : Trees) → Keeps rul
 at_table (OfRoll Lecturers) o rule db all = all.1.0
 at_table (OfRoll Projects) o rule db all = all.1.1.0
 at_table (OfRoll Students) o rule db all = all.1.1.1.0
-at_table (OfLists Choices) o rule db all = all.1.1.1.1.0
-at_table (OfLists Rankings) o rule db all = all.1.1.1.1.1.0
-at_table (OfLists SecondChoices) o rule db all = all.1.1.1.1.1.1.1.0
+at_table (OfLists (Choices First)) o rule db all = all.1.1.1.1.0
+at_table (OfLists (Rankings First)) o rule db all = all.1.1.1.1.1.0
+at_table (OfLists (Choices Second)) o rule db all = all.1.1.1.1.1.1.1.0
 at_table OfRanked o rule db all = all.1.1.1.1.1.1.1.1.0
-at_table (OfLists SecondRankings) o rule db all = all.1.1.1.1.1.1.1.1.1.0
+at_table (OfLists (Rankings Second)) o rule db all = all.1.1.1.1.1.1.1.1.1.0
 at_table OfPlaces o rule db all = all.1.1.1.1.1.1.1.1.1.1.0
 
 -- what the rules say of a sound database's tables, read as those of a round, and of one of them
@@ -189,20 +213,24 @@ followed db t own sound rule =
 pub lecturer_rows_formed : (db : Database) → HasFirstSchema db.schema → IsDatabase db
     → RowNumbersDiffer (db.trees lecturer_tree) → AllByRecursion IsLecturerRow (db.trees lecturer_tree)
 lecturer_rows_formed db own sound apart =
-    formed IsLecturerRow (lecturer_schema 1).columns lecturer_form (db.trees lecturer_tree) apart (followed db (OfRoll Lecturers) own sound Datatype) (followed db (OfRoll Lecturers) own sound NotNull)
+    formed IsLecturerRow (lecturer_schema 1).columns lecturer_form (db.trees lecturer_tree) apart
+    (followed db (OfRoll Lecturers) own sound Datatype) (followed db (OfRoll Lecturers) own sound NotNull)
 
 pub student_rows_formed : (db : Database) → HasFirstSchema db.schema → IsDatabase db
     → RowNumbersDiffer (db.trees student_tree) → AllByRecursion IsStudentRow (db.trees student_tree)
 student_rows_formed db own sound apart =
-    formed IsStudentRow (student_schema 6).columns student_form (db.trees student_tree) apart (followed db (OfRoll Students) own sound Datatype) (followed db (OfRoll Students) own sound NotNull)
+    formed IsStudentRow (student_schema 6).columns student_form (db.trees student_tree) apart
+    (followed db (OfRoll Students) own sound Datatype) (followed db (OfRoll Students) own sound NotNull)
 
 pub project_rows_formed : (db : Database) → HasFirstSchema db.schema → IsDatabase db
     → RowNumbersDiffer (db.trees project_tree) → AllByRecursion (λ r. IsText (column r 2)) (db.trees project_tree)
 project_rows_formed db own sound apart =
-    formed (λ r. IsText (column r 2)) (project_schema 4).columns project_form (db.trees project_tree) apart (followed db (OfRoll Projects) own sound Datatype) (followed db (OfRoll Projects) own sound NotNull)
+    formed (λ r. IsText (column r 2)) (project_schema 4).columns project_form (db.trees project_tree) apart
+    (followed db (OfRoll Projects) own sound Datatype) (followed db (OfRoll Projects) own sound NotNull)
 
 pub place_rows_formed : (db : Database) (l : Lists) → HasRound (round_of l) db.schema → IsDatabase db
     → RowNumbersDiffer (db.trees (tree_of l)) → AllByRecursion IsPlace (db.trees (tree_of l))
 place_rows_formed db l own sound apart =
-    formed IsPlace (list_table (names l) (tree_of l)).columns (place_form (names l).owner (codes "place") (names l).item) (db.trees (tree_of l)) apart
+    formed IsPlace (list_table (names l) (tree_of l)).columns (place_form (names l).owner (codes "place") (names l).item)
+    (db.trees (tree_of l)) apart
     (followed db (OfLists l) own sound Datatype) (followed db (OfLists l) own sound NotNull)

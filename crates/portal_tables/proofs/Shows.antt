@@ -4,7 +4,7 @@ use Rattle.portal_tables.proofs.Base.{refl, sym, ap, subst, subst₂, ◌∙◌,
 use Rattle.portal_tables.proofs.Base.{Schema, Database, Answers, Command, Program, Compiled, State, Shown, HasCleanDisk}
 use Rattle.portal_tables.proofs.Base.{IsUnchanged, Survives, Select, everything, understood, reads_listing, lets_of}
 use Rattle.portal_tables.proofs.Base.{Ends, IsPlain, IsPlainIfAny, EndsIn, command_of, reads_as, survives_weaker}
-use Rattle.portal_tables.proofs.Base.{Choices, Whole, LecturerByCode, StudentByCode, LecturerByKey, StudentTold}
+use Rattle.portal_tables.proofs.Base.{Choices, Rankings, Whole, LecturerByCode, StudentByCode, LecturerByKey, StudentTold}
 use Rattle.portal_tables.proofs.Base.{AllLists, ListOf, Choosers, Listed, ProjectsOf, First, SecondRankedBy}
 use Rattle.portal_tables.proofs.Base.{SecondPlaceOf, Numbers, Lecturers, OfRoll, OfLists, ListsBy, HasRound, selection}
 use Rattle.portal_tables.proofs.Base.{round_asked, query_text, given, on_ok_weaker, Reading, Anyhow}
@@ -62,7 +62,8 @@ asked q = record { lets = []; body = by_columns (selection q).tree (tests q) (ma
 
 -- the text is such a query, which changes nothing and reads no list of the tables
 abbrev IsUnderstood : Query → Schema → Type 0
-IsUnderstood q s = (program_of (command_of (understood s (query_text q))) ≡ Some (asked q)) × IsPlain (understood s (query_text q)) × (reads_listing s (query_text q) ≡ false)
+IsUnderstood q s = (program_of (command_of (understood s (query_text q))) ≡ Some (asked q)) × IsPlain (understood s (query_text q))
+    × (reads_listing s (query_text q) ≡ false)
 
 -- the program of a text that is a plain query
 abbrev plain_query : {R F : Type 0} → Command → Option R → List F → Option Program
@@ -79,7 +80,8 @@ plain_parts (Select p names) None [] q h = (h, refl, refl)
 plain_parts _ _ _ q h = absurd (cc)
 
 -- what a text was understood as follows from one computation of its program
-parts : (r other : Result Compiled CompileError) (p : Program) → plain_of r ≡ Some p → let u = if misses_table r then if_select other else r in (program_of (command_of u) ≡ Some p) × IsPlain u × (misses_table r ≡ false)
+parts : (r other : Result Compiled CompileError) (p : Program) → plain_of r ≡ Some p
+    → let u = if misses_table r then if_select other else r in (program_of (command_of u) ≡ Some p) × IsPlain u × (misses_table r ≡ false)
 parts (Ok c) other p h = let is = plain_parts c.command c.returning c.formats p h in (is.0, (is.1, is.2), refl)
 parts (Err e) other p h = absurd (cc)
 
@@ -91,12 +93,15 @@ understands q s h = parts (compiled s (query_text q)) (compiled listing_schema (
 is : (q : Query) (o : Open) → plain_of (compiled (schema_with (round_asked q) o) (query_text q)) ≡ Some (asked q)
 unfolding everything
 is (Whole Lecturers) o = refl
-is (AllLists Choices) o = refl
-is (ListOf Choices owner) o = refl
+is (AllLists (Choices First)) o = refl
+is (AllLists (Rankings First)) o = refl
+is (ListOf (Choices First) owner) o = refl
+is (ListOf (Rankings First) owner) o = refl
 is (Choosers First project) o = refl
 is (Listed First) o = refl
 is (Numbers (OfRoll Lecturers)) o = refl
-is (Numbers (OfLists Choices)) o = refl
+is (Numbers (OfLists (Choices First))) o = refl
+is (Numbers (OfLists (Rankings First))) o = refl
 is _ o = refl
 
 own_is_understood : (q : Query) (s : Schema) → HasRound (round_asked q) s → IsUnderstood q s
@@ -123,7 +128,8 @@ compiled_alone (Ok c) p = (refl, refl)
 compiled_alone (Err e) p = tt
 
 planned_alone : (s : Schema) (p : Parsed) (q : written_select.Select)
-    → IsPlainIfAny (and_then (planned s (record p { statement = written.Select q; formats = [] })) (λ plan. Ok (with_command (record p { statement = written.Select q; formats = [] }) plan)))
+    → IsPlainIfAny (and_then (planned s (record p { statement = written.Select q; formats = [] }))
+    (λ plan. Ok (with_command (record p { statement = written.Select q; formats = [] }) plan)))
 unfolding planned meaning returning timed
 planned_alone s p q = compiled_alone _ (record p { statement = written.Select q; formats = [] })
 
@@ -131,13 +137,15 @@ parsed_alone : (s : Schema) (p : Parsed) → is_query_alone p.statement p.format
     → IsPlainIfAny (and_then (planned s p) (λ plan. Ok (with_command p plan)))
 parsed_alone s p h =
     let it = alone_parts p.statement p.formats h in
-    let is : record p { statement = written.Select it.0.0; formats = [] } ≡ p = λ i. record p { statement = sym it.0.1 i; formats = sym it.1 i } in
+    let is : record p { statement = written.Select it.0.0; formats = [] }
+    ≡ p = λ i. record p { statement = sym it.0.1 i; formats = sym it.1 i } in
     subst (λ x. IsPlainIfAny (and_then (planned s x) (λ plan. Ok (with_command x plan)))) is (planned_alone s p it.0.0)
 
 compiled_plain : (s : Schema) (sql : List ℕ) → is_read_alone (first sql) ≡ true → IsPlainIfAny (compiled s sql)
 unfolding compiled
 compiled_plain s sql =
-    elim (first sql) as (λ r. is_read_alone r ≡ true → IsPlainIfAny (and_then r (λ p. and_then (planned s p) (λ plan. Ok (with_command p plan)))))
+    elim (first sql) as (λ r. is_read_alone r ≡ true
+    → IsPlainIfAny (and_then r (λ p. and_then (planned s p) (λ plan. Ok (with_command p plan)))))
     [ Ok p ↦ parsed_alone s p | Err e ↦ λ h. tt ]
 
 listing_plain : (r : Checked Compiled) → IsPlainIfAny r → IsPlainIfAny (if_select r)
@@ -154,12 +162,15 @@ plain_anywhere s sql h =
 is_alone : (q : Query) → is_read_alone (first (query_text q)) ≡ true
 unfolding everything
 is_alone (Whole Lecturers) = refl
-is_alone (AllLists Choices) = refl
-is_alone (ListOf Choices owner) = refl
+is_alone (AllLists (Choices First)) = refl
+is_alone (AllLists (Rankings First)) = refl
+is_alone (ListOf (Choices First) owner) = refl
+is_alone (ListOf (Rankings First) owner) = refl
 is_alone (Choosers First project) = refl
 is_alone (Listed First) = refl
 is_alone (Numbers (OfRoll Lecturers)) = refl
-is_alone (Numbers (OfLists Choices)) = refl
+is_alone (Numbers (OfLists (Choices First))) = refl
+is_alone (Numbers (OfLists (Rankings First))) = refl
 is_alone _ = refl
 
 -- a command that is a query is that one
@@ -182,7 +193,8 @@ module _ (q : Query) (sql : List ℕ) (params : Row) (text : sql ≡ query_text 
   pub ends : (s : Schema) → HasRound (round_asked q) s → (c : Compiled) → understood s sql ≡ Ok c
       → (db : Database) (full : Row) → EndsIn c.command db full
   ends s own c known db full =
-      program_ends c.command (asked q) db full (ap (λ x. program_of (command_of x)) (sym known ∙ ap (understood s) text) ∙ (own_is_understood q s own).0) tt
+      program_ends c.command (asked q) db full
+      (ap (λ x. program_of (command_of x)) (sym known ∙ ap (understood s) text) ∙ (own_is_understood q s own).0) tt
 
   pub shows : (old new : State) (rows : List Row) → HasRound (round_asked q) old.now.schema
       → Shown sql params old new rows → QueryShows q old.now.trees rows
@@ -190,13 +202,18 @@ module _ (q : Query) (sql : List ℕ) (params : Row) (text : sql ≡ query_text 
       let it = own_is_understood q old.now.schema own in
       let here : Shown (query_text q) (given q) old new rows = subst₂ (λ t v. Shown t v old new rows) text values h in
       let read = reads_as (query_text q) (given q) old new old.now.schema refl _ refl it.1 it.2 rows here in
-      let lists = listed (selection q).tree (selection q).by (tests q) (map (λ at. col 1 at) (selection q).shown) old.now.trees (given q) rows (program_is _ (asked q) old.now (given q) rows it.0 read).answer in
-      subst₂ (λ p show. ListsBy (selection q).by p show (old.now.trees (selection q).tree) rows) (tested q) (λ i r. columns_are (selection q).shown (given q) r i) lists
+      let lists = listed (selection q).tree (selection q).by (tests q) (map (λ at. col 1 at) (selection q).shown) old.now.trees
+      (given q) rows (program_is _ (asked q) old.now (given q) rows it.0 read).answer in
+      subst₂ (λ p show. ListsBy (selection q).by p show (old.now.trees (selection q).tree) rows) (tested q)
+      (λ i r. columns_are (selection q).shown (given q) r i) lists
 
   pub asks : {V E : Type 0} {Told : Database → Result V E → Type 0} (r : Result V E) (old new : State)
       → (IsPlainIfAny (understood old.now.schema sql) → HasCleanDisk new → OnOk r (IsUnchanged old new))
-      → (IsPlainIfAny (understood old.now.schema sql) → HasCleanDisk new → OnErr r (IsUnchangedOrUndone old new)) → (old.in_transaction ≡ false → new.in_transaction ≡ false)
-      → Survives old new (λ _. IsPlainIfAny (understood old.now.schema sql) → ⊥) → (HasRound (round_asked q) old.now.schema → HasCleanDisk new → Told old.now r) → Reading (round_asked q) Anyhow Always Told r old new
+      → (IsPlainIfAny (understood old.now.schema sql) → HasCleanDisk new → OnErr r (IsUnchangedOrUndone old new))
+      → (old.in_transaction ≡ false → new.in_transaction ≡ false)
+      → Survives old new (λ _. IsPlainIfAny (understood old.now.schema sql) → ⊥)
+      → (HasRound (round_asked q) old.now.schema → HasCleanDisk new → Told old.now r)
+      → Reading (round_asked q) Anyhow Always Told r old new
   asks r old new same err mode survives told = record {
     same = λ clean on. same (plain old.now.schema) clean;
     err = λ clean on. err (plain old.now.schema) clean;

@@ -24,10 +24,15 @@ NeverFall (k ∷ ks) = AllByRecursion (λ l. is_before l k ≡ false) ks × Neve
 pub rise_from_distinct : (ks : List Key) → NeverFall ks → IsDistinct equals ks → Rise ks
 unfolding IsDistinct
 rise_from_distinct [] h d = tt
-rise_from_distinct (k ∷ ks) h d = (all_two _ _ (λ l. is_before k l ≡ true) (λ l up other. after_other l k up (is_sym l k ∙ other)) ks h.0 d.0, rise_from_distinct ks h.1 d.1)
+rise_from_distinct (k ∷ ks) h d = (
+  all_two _ _ (λ l. is_before k l ≡ true)
+      (λ l up other. after_other l k up (is_sym l k ∙ other)) ks h.0 d.0,
+  rise_from_distinct ks h.1 d.1,
+)
 
 pub has_permuted : {X : Type 0} (xs ys : List X) → IsPermutation xs ys → (x : X) → Has xs x → Has ys x
-has_permuted xs ys same x h = at (λ z. Has ys z) xs x (all_permuted (λ z. Has ys z) ys xs (IsPermutation-sym xs ys same) (all_has (λ z. Has ys z) ys (λ z k. k))) h
+has_permuted xs ys same x h = at (λ z. Has ys z) xs x
+    (all_permuted (λ z. Has ys z) ys xs (IsPermutation-sym xs ys same) (all_has (λ z. Has ys z) ys (λ z k. k))) h
 
 -- a key that is a member passes the test of it
 pub has_of : (ks : List Key) (k : Key) → Has ks k → has ks k ≡ true
@@ -51,7 +56,8 @@ module _ {X : Type 0} (key : X → Key) where
   pub permutes_more : (xs ys : List X) → IsPermutation (xs ++ ys) (put_all key xs ys)
   permutes_more [] ys = IsPermutation-refl ys
   permutes_more (x ∷ xs) ys =
-      IsPermutation-trans _ _ _ (IsPermutation-sym _ _ (IsPermutation-middle xs x ys)) (IsPermutation-trans _ _ _ (IsPermutation-append_right xs _ _ (permutes_one x ys)) (permutes_more xs (put key x ys)))
+      IsPermutation-trans _ _ _ (IsPermutation-sym _ _ (IsPermutation-middle xs x ys))
+      (IsPermutation-trans _ _ _ (IsPermutation-append_right xs _ _ (permutes_one x ys)) (permutes_more xs (put key x ys)))
 
   pub permutes : (xs : List X) → IsPermutation xs (put_all key xs [])
   permutes xs = subst (λ l. IsPermutation l (put_all key xs [])) (append-nil xs) (permutes_more xs [])
@@ -71,12 +77,14 @@ module _ {X : Type 0} (key : X → Key) where
         | inl e ↦ e
         | inr low ↦ elim (back y (inl refl)) [
           | inl e ↦ sym e
-          | inr high ↦ absurd (not_before_itself (key x) (before_trans (key x) (key y) (key x) (above (key x) xs y p.0 high) (above (key y) ys x q.0 low)))
+          | inr high ↦ absurd (not_before_itself (key x)
+              (before_trans (key x) (key y) (key x) (above (key x) xs y p.0 high) (above (key y) ys x q.0 low)))
         ]
       ] in
       ap₂ (λ a b. a ∷ b) first (one_order xs ys p.1 q.1
       (λ z h. elim (to z (inr h)) [
-        | inl e ↦ absurd (not_before_itself (key x) (subst (λ w. is_before (key x) (key w) ≡ true) (e ∙ sym first) (above (key x) xs z p.0 h)))
+        | inl e ↦ absurd (not_before_itself (key x)
+            (subst (λ w. is_before (key x) (key w) ≡ true) (e ∙ sym first) (above (key x) xs z p.0 h)))
         | inr on ↦ on
       ])
       (λ z h. elim (back z (inr h)) [
@@ -99,7 +107,8 @@ module _ {X : Type 0} (key : X → Key) where
   rise_one : (x : X) (ys : List X) → Rise (map key ys) → AllByRecursion (λ l. equals (key x) l ≡ false) (map key ys)
       → Rise (map key (put key x ys))
   rise_one x ys up d =
-      rise_put key x ys up (none_is (key x) (map key ys) (all_weaker (λ l. equals (key x) l ≡ false) (λ l. equals l (key x) ≡ false) (λ l other. is_sym l (key x) ∙ other) (map key ys) d))
+      rise_put key x ys up (none_is (key x) (map key ys)
+      (all_weaker (λ l. equals (key x) l ≡ false) (λ l. equals l (key x) ≡ false) (λ l other. is_sym l (key x) ∙ other) (map key ys) d))
 
   behind : (k : Key) (us ys : List X) → AllByRecursion (λ l. equals k l ≡ false) (map key (us ++ ys))
       → AllByRecursion (λ l. equals k l ≡ false) (map key ys)
@@ -118,13 +127,17 @@ module _ {X : Type 0} (key : X → Key) where
   rise_put_all (x ∷ xs) ys d up =
       let front : IsDistinct equals (map key (x ∷ (xs ++ ys))) = d in
       let swapped : IsDistinct equals (map key (xs ++ put key x ys)) =
-      distinct_permuted (x ∷ (xs ++ ys)) (xs ++ put key x ys) (IsPermutation-trans _ _ _ (IsPermutation-sym _ _ (IsPermutation-middle xs x ys)) (IsPermutation-append_right xs _ _ (permutes_one x ys))) front in
+      distinct_permuted (x ∷ (xs ++ ys)) (xs ++ put key x ys)
+      (IsPermutation-trans _ _ _ (IsPermutation-sym _ _ (IsPermutation-middle xs x ys))
+      (IsPermutation-append_right xs _ _ (permutes_one x ys))) front in
       rise_put_all xs (put key x ys) swapped (rise_one x ys up (apart_from x xs ys front))
 
   -- the rows with rising keys, in whatever order they were
   pub in_order : (xs ys : List X) → IsPermutation xs ys → Rise (map key ys) → ys ≡ put_all key xs []
   in_order xs ys same up =
-      let d : IsDistinct equals (map key (xs ++ [])) = subst (λ l. IsDistinct equals (map key l)) (sym (append-nil xs)) (distinct_permuted ys xs (IsPermutation-sym xs ys same) (rise_distinct (map key ys) up)) in
+      let d : IsDistinct equals (map key (xs ++ [])) =
+      subst (λ l. IsDistinct equals (map key l)) (sym (append-nil xs))
+      (distinct_permuted ys xs (IsPermutation-sym xs ys same) (rise_distinct (map key ys) up)) in
       one_rise ys (put_all key xs []) (IsPermutation-trans _ _ _ (IsPermutation-sym xs ys same) (permutes xs)) up (rise_put_all xs [] d tt)
 
   -- the same rows, in two orders, are one list once they are put, if that rises
@@ -135,16 +148,19 @@ module _ {X : Type 0} (key : X → Key) where
   -- rows in an order in which no key falls, where the same rows rise once they are put
   pub sorted_order : (xs ys : List X) → IsPermutation xs ys → NeverFall (map key ys)
       → Rise (map key (put_all key xs [])) → ys ≡ put_all key xs []
-  sorted_order xs ys same sorted up = in_order xs ys same (rise_from_distinct (map key ys) sorted (distinct_permuted xs ys same (distinct_if_rise xs up)))
+  sorted_order xs ys same sorted up = in_order xs ys same
+      (rise_from_distinct (map key ys) sorted (distinct_permuted xs ys same (distinct_if_rise xs up)))
 
   -- new rows, among those that were there
   pub more_rows : (xs ys zs : List X) → IsPermutation (xs ++ ys) zs → Rise (map key (put_all key xs ys))
       → put_all key zs [] ≡ put_all key xs ys
-  more_rows xs ys zs same up = sym (in_order zs (put_all key xs ys) (IsPermutation-trans _ _ _ (IsPermutation-sym _ _ same) (permutes_more xs ys)) up)
+  more_rows xs ys zs same up = sym (in_order zs (put_all key xs ys)
+      (IsPermutation-trans _ _ _ (IsPermutation-sym _ _ same) (permutes_more xs ys)) up)
 
   pub more_put : (xs ys zs : List X) → IsPermutation (xs ++ ys) zs → Rise (map key (put_all key xs (put_all key ys [])))
       → put_all key zs [] ≡ put_all key xs (put_all key ys [])
-  more_put xs ys zs same up = more_rows xs (put_all key ys []) zs (IsPermutation-trans _ _ _ (IsPermutation-append_right xs _ _ (IsPermutation-sym _ _ (permutes ys))) same) up
+  more_put xs ys zs same up = more_rows xs (put_all key ys []) zs
+      (IsPermutation-trans _ _ _ (IsPermutation-append_right xs _ _ (IsPermutation-sym _ _ (permutes ys))) same) up
 
 -- a change of each row that keeps its key
 module _ {X Y : Type 0} (key : X → Key) (there : Y → Key) (f : X → Y) (alike : (x : X) → there (f x) ≡ key x) where
@@ -152,7 +168,8 @@ module _ {X Y : Type 0} (key : X → Key) (there : Y → Key) (f : X → Y) (ali
   put_map x [] = refl
   put_map x (y ∷ ys) =
       ap₂ (λ a b. cond (is_before a b) (f x ∷ f y ∷ map f ys) (f y ∷ put there (f x) (map f ys))) (alike x) (alike y)
-      ∙ elim (is_before (key x) (key y)) as (λ b. cond b (f x ∷ f y ∷ map f ys) (f y ∷ put there (f x) (map f ys)) ≡ map f (cond b (x ∷ y ∷ ys) (y ∷ put key x ys)))
+      ∙ elim (is_before (key x) (key y)) as (λ b. cond b (f x ∷ f y ∷ map f ys) (f y ∷ put there (f x) (map f ys))
+      ≡ map f (cond b (x ∷ y ∷ ys) (y ∷ put key x ys)))
       [ true ↦ refl | false ↦ ap (λ l. f y ∷ l) (put_map x ys) ]
 
   pub put_all_map : (xs ys : List X) → put_all there (map f xs) (map f ys) ≡ map f (put_all key xs ys)

@@ -19,18 +19,22 @@ text_key name cs _ t p = absurd (let e : false ≡ true = p in cc)
 
 texts : (name : List ℕ) (cs : List Column) (rows : List Row)
     → AllByRecursion (λ r. (are_typed None 0 (column_of name Text true ∷ cs) (drop 1 r) && true) ≡ true) rows
-    → AllByRecursion (λ r. are_present None 0 (column_of name Text true ∷ cs) r ≡ true) rows → AllByRecursion (λ r. IsText (column r 1)) rows
+    → AllByRecursion (λ r. are_present None 0 (column_of name Text true ∷ cs) r ≡ true) rows
+    → AllByRecursion (λ r. IsText (column r 1)) rows
 texts name cs = all_two _ (λ r. are_present None 0 (column_of name Text true ∷ cs) r ≡ true) (λ r. IsText (column r 1)) (text_key name cs)
 
 pub key_texts : (db : Database) (t : Named) → HasRound (table_round t) db.schema → IsDatabase db
     → AllByRecursion (λ r. IsText (column r 1)) (db.trees (table_tree t))
-key_texts db t own sound = go t (own_is (table_round t) db.schema own).o (followed db t own sound Datatype) (followed db t own sound NotNull)
+key_texts db t own sound = go t (own_is (table_round t) db.schema own).o (followed db t own sound Datatype)
+    (followed db t own sound NotNull)
   where
     go : (t : Named) (o : Open) → AllByRecursion (λ r. Follows Datatype t o db.trees r ≡ true) (db.trees (table_tree t))
-        → AllByRecursion (λ r. Follows NotNull t o db.trees r ≡ true) (db.trees (table_tree t)) → AllByRecursion (λ r. IsText (column r 1)) (db.trees (table_tree t))
+        → AllByRecursion (λ r. Follows NotNull t o db.trees r ≡ true) (db.trees (table_tree t))
+        → AllByRecursion (λ r. IsText (column r 1)) (db.trees (table_tree t))
     go (OfRoll Lecturers) o = texts (codes "key") (drop 1 (lecturer_schema 1).columns) (db.trees lecturer_tree)
     go (OfRoll Projects) o = texts (codes "key") (drop 1 (project_schema 4).columns) (db.trees project_tree)
     go (OfRoll Students) o = texts (codes "key") (drop 1 (student_schema 6).columns) (db.trees student_tree)
-    go (OfLists l) o = texts (names l).owner (column_of (codes "place") Integer true ∷ column_of (names l).item Text true ∷ []) (db.trees (tree_of l))
+    go (OfLists l) o = texts (names l).owner (column_of (codes "place") Integer true ∷ column_of (names l).item Text true ∷ [])
+        (db.trees (tree_of l))
     go OfRanked o = texts (codes "lecturer") [] (db.trees ranked2_tree)
     go OfPlaces o = texts (codes "student") (column_of (codes "project") Text true ∷ []) (db.trees assigned2_tree)

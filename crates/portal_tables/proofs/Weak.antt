@@ -29,7 +29,11 @@ abbrev pub first_with : (ℕ → List Term) → (ℕ → List Term) → Schema
 first_with checks terms = record first_written { tables = map (with_checks checks terms) first_written.tables }
 
 abbrev pub schema_with : Round → Open → Schema
-schema_with First o = record { tables = map (with_checks o.checks o.terms) first_written.tables ++ o.tables; indexes = o.indexes; views = [] }
+schema_with First o = record {
+  tables = map (with_checks o.checks o.terms) first_written.tables ++ o.tables;
+  indexes = o.indexes;
+  views = [];
+}
 schema_with Second o = portal_with o.checks o.terms
 
 pub record IsWith (round : Round) (s : Schema) : Type 0 where
@@ -58,7 +62,8 @@ others_have : (tree : ℕ) (c d : List Term) (checks terms : ℕ → List Term) 
 others_have tree c d checks terms [] h = refl
 others_have tree c d checks terms (v ∷ us) h =
     let two = and_parts (not (eqb v.tree tree)) (list_all (λ w. not (eqb w.tree tree)) us) h in
-    λ i. with_terms (skips (eqb v.tree tree) c (checks v.tree) two.0 i) (skips (eqb v.tree tree) d (terms v.tree) two.0 i) v ∷ others_have tree c d checks terms us two.1 i
+    λ i. with_terms (skips (eqb v.tree tree) c (checks v.tree) two.0 i) (skips (eqb v.tree tree) d (terms v.tree) two.0 i) v
+    ∷ others_have tree c d checks terms us two.1 i
   where
     skips : (b : Bool) (x y : List Term) → not b ≡ true → y ≡ cond b x y
     skips true x y e = absurd (cc)
@@ -76,20 +81,27 @@ zipped (t ∷ ts) [] h apart = absurd h
 zipped (t ∷ ts) (u ∷ us) h apart =
     let two = and_parts (list_all (λ v. not (eqb v.tree u.tree)) us) (row_numbers_differ us) apart in
     let rest = zipped ts us h.1 two.1 in
-    let own : (x : List Term) (others : ℕ → List Term) → x ≡ with_one u.tree x others u.tree = λ x others. sym (ap (λ b. cond b x (others u.tree)) (eq-eqb u.tree u.tree refl)) in
+    let own : (x : List Term) (others : ℕ → List Term)
+    → x ≡ with_one u.tree x others u.tree = λ x others. sym (ap (λ b. cond b x (others u.tree)) (eq-eqb u.tree u.tree refl)) in
     record {
       checks = with_one u.tree t.checks rest.checks;
       terms = with_one u.tree t.stamps.terms rest.terms;
-      is = ap₂ (λ x xs. x ∷ xs) (table_is t u h.0 ∙ ap₂ (λ c d. with_terms c d u) (own t.checks rest.checks) (own t.stamps.terms rest.terms))
+      is = ap₂ (λ x xs. x ∷ xs) (table_is t u h.0
+          ∙ ap₂ (λ c d. with_terms c d u) (own t.checks rest.checks) (own t.stamps.terms rest.terms))
           (rest.is ∙ others_have u.tree t.checks t.stamps.terms rest.checks rest.terms us two.0);
     }
 
 pub own_is : (round : Round) (s : Schema) → HasRound round s → IsWith round s
 own_is First s h =
-    let z = zipped (take 6 s.tables) first_written.tables (subst (λ (f : Schema). AllZip SameTable (take 6 s.tables) f.tables) first_as_written h.tables) refl in
+    let z = zipped (take 6 s.tables) first_written.tables
+    (subst (λ (f : Schema). AllZip SameTable (take 6 s.tables) f.tables) first_as_written h.tables) refl in
     record {
       o = record { checks = z.checks; terms = z.terms; tables = drop 6 s.tables; indexes = s.indexes };
-      is = λ i. record { tables = (sym (take-append-drop 6 s.tables) ∙ ap (λ ts. ts ++ drop 6 s.tables) z.is) i; indexes = s.indexes; views = h.no_views i };
+      is = λ i. record {
+        tables = (sym (take-append-drop 6 s.tables) ∙ ap (λ ts. ts ++ drop 6 s.tables) z.is) i;
+        indexes = s.indexes;
+        views = h.no_views i;
+      };
     }
 own_is Second s h =
     let w : SameSchema s portal_written = subst (SameSchema s) portal_as_written h in

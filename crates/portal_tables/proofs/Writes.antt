@@ -63,14 +63,16 @@ rows_new : (table cells : List Row) → are_fresh table (numbered Chosen table (
 rows_new table [] h = tt
 rows_new table (c ∷ cells) h =
     let row = Int (next_rowid table) ∷ c in
-    let two = and_parts (not (is_taken table row)) (are_fresh (put_row row table) (numbered Chosen (put_row row table) (map unnumbered cells))) h in
+    let two = and_parts (not (is_taken table row))
+    (are_fresh (put_row row table) (numbered Chosen (put_row row table) (map unnumbered cells))) h in
     (not_true (is_taken table row) two.0, rows_new (put_row row table) cells two.1)
 
 -- what a query of one table shows, in some order
 pub query_answered : (tree : ℕ) (tests project : List Term) (db : Trees) (params : Row) (rows : List Row)
     → IsProgramAnswer [] (one_table tree tests project) db params rows
     → IsPermutation (map (shown_as project params) (filter (passes tests params) (db tree))) rows
-query_answered tree tests project db params rows h = permuted [] (passes tests params) (shown_as project params) (db tree) rows (listed tree [] tests project db params rows h)
+query_answered tree tests project db params rows h =
+    permuted [] (passes tests params) (shown_as project params) (db tree) rows (listed tree [] tests project db params rows h)
 
 -- the rows that are left where those that pass go by their numbers
 pub left_is : (p : Row → Bool) (rest : Row → Row) (rows shown : List Row) → RowNumbersDiffer rows
@@ -78,8 +80,11 @@ pub left_is : (p : Row → Bool) (rest : Row → Row) (rows shown : List Row) �
     → without_all rows (ids_of shown) ≡ filter (λ r. not (p r)) rows
 left_is p rest rows shown apart same =
     let ids : IsPermutation (map (λ r. id_in (rowid r)) (filter p rows)) (ids_of shown) =
-    subst (λ l. IsPermutation l (ids_of shown)) (map-map (λ r. id_in (rowid r)) (λ r. rowid r ∷ rest r) (filter p rows)) (IsPermutation-map (λ r. id_in (rowid r)) (map (λ r. rowid r ∷ rest r) (filter p rows)) shown same) in
-    without_is (ids_of shown) rows ∙ filter_same _ _ rows (λ r has. ap not (sym (list_any-IsPermutation (λ id. has_rowid id r) _ _ ids) ∙ any_map (λ id. has_rowid id r) (λ s. id_in (rowid s)) (filter p rows) ∙ found_once p rows r apart has))
+    subst (λ l. IsPermutation l (ids_of shown)) (map-map (λ r. id_in (rowid r)) (λ r. rowid r ∷ rest r) (filter p rows))
+    (IsPermutation-map (λ r. id_in (rowid r)) (map (λ r. rowid r ∷ rest r) (filter p rows)) shown same) in
+    without_is (ids_of shown) rows ∙ filter_same _ _ rows
+    (λ r has. ap not (sym (list_any-IsPermutation (λ id. has_rowid id r) _ _ ids)
+    ∙ any_map (λ id. has_rowid id r) (λ s. id_in (rowid s)) (filter p rows) ∙ found_once p rows r apart has))
 
 -- rows that have numbers of their own are given none
 rows_stay : (table rows : List Row) → numbered Given table rows ≡ rows
@@ -90,16 +95,21 @@ rows_stay table (r ∷ rows) = ap (λ l. r ∷ l) (rows_stay (put_row r table) r
 abbrev pub HasNumber : Row → Type 0
 HasNumber r = rowid r ≡ Int (id_in (rowid r))
 
-module _ (schema : Schema) (sql : List ℕ) (at : ℕ) (name : List ℕ) (tree : ℕ) (columns : List Column) (key : Option ℕ) (primary : List ℕ) (uniques : List (List ℕ)) (orders : List Order) (checks : List Term)
+module _ (schema : Schema) (sql : List ℕ) (at : ℕ) (name : List ℕ) (tree : ℕ) (columns : List Column) (key : Option ℕ) (primary : List ℕ)
+    (uniques : List (List ℕ)) (orders : List Order) (checks : List Term)
     (references : List Reference) (terms_of : List Term) where
   abbrev pub table : Table
-  table = record (schema_of name tree columns key primary uniques orders checks references) { stamps = record { places = []; terms = terms_of; formats = [] } }
+  table = record (schema_of name tree columns key primary uniques orders checks
+      references) { stamps = record { places = []; terms = terms_of; formats = [] } }
 
   -- where its tables are the portal's own
-  module _ (place : slice_get schema.tables at ≡ Some table) (own : (P : ℕ → Type 0) → AllByRecursion (λ (t : Table). P t.tree) schema.tables → AllByRecursion P own_trees) where
-    pub inserted : (terms : List Term) (width : ℕ) (command : command_of (understood schema sql) ≡ Insert at (Values terms width)) (plain : IsPlain (understood schema sql))
+  module _ (place : slice_get schema.tables at ≡ Some table)
+      (own : (P : ℕ → Type 0) → AllByRecursion (λ (t : Table). P t.tree) schema.tables → AllByRecursion P own_trees) where
+    pub inserted : (terms : List Term) (width : ℕ) (command : command_of (understood schema sql) ≡ Insert at (Values terms width))
+        (plain : IsPlain (understood schema sql))
         → ((rows : List Row) → works schema Enforced 0 tree [] rows ≡ [])
-        → (params : Row) (cells : List Row) → ((more : Row) → value_rows (params ++ more) width (length terms / width) terms ≡ map unnumbered cells)
+        → (params : Row) (cells : List Row) → ((more : Row)
+        → value_rows (params ++ more) width (length terms / width) terms ≡ map unnumbered cells)
         → AllByRecursion (λ c. cast_row table (unnumbered c) ≡ unnumbered c) cells
         → (old new : State) (count : ℕ) → old.now.schema ≡ schema → Executes sql params old new (Ok count)
         → InsertsRows tree cells old.now new.now
@@ -107,7 +117,8 @@ module _ (schema : Schema) (sql : List ℕ) (at : ℕ) (name : List ℕ) (tree :
         let db = old.now.trees in
         let w = runs_as sql params old new schema has _ command plain count h in
         let text = statement_of sql (understood schema sql) in
-        let changed = subst (λ s. Does old.step_limit (mode_of old) params (record old.now { schema = s }) text None (Insert at (Values terms width)) (Ok (w.tally, new.now))) has w.changed in
+        let changed = subst (λ s. Does old.step_limit (mode_of old) params (record old.now { schema = s }) text None
+        (Insert at (Values terms width)) (Ok (w.tally, new.now))) has w.changed in
         let done = went (rw place at changed) in
         let now = ap (λ (p : Tally × Database). p.1) (same_value (went (went done.2).2).2) in
         let source = went done.1 in
@@ -115,14 +126,17 @@ module _ (schema : Schema) (sql : List ℕ) (at : ℕ) (name : List ℕ) (tree :
         let counted = went written.2 in
         let trees : done.0.trees ≡ written.0 = ap (λ (it : Written). it.trees) (same_value counted.2) ∙ same_value counted.1 in
         let edit : Edit = edit_with (map unnumbered cells) in
-        let edit_is : edit_of db table [] Chosen 0 source.0 ≡ edit = ap (edit_of db table [] Chosen 0) (source.1.1 ∙ given _) ∙ ap edit_with (cast_all cells casts) in
-        let wrote = one_step schema Enforced db written.0 edit (idle edit.news) (subst (λ e. Edited schema Enforced db e (Ok written.0)) edit_is written.1) in
+        let edit_is : edit_of db table [] Chosen 0 source.0 ≡ edit = ap (edit_of db table [] Chosen 0) (source.1.1 ∙ given _)
+        ∙ ap edit_with (cast_all cells casts) in
+        let wrote = one_step schema Enforced db written.0 edit (idle edit.news)
+        (subst (λ e. Edited schema Enforced db e (Ok written.0)) edit_is written.1) in
         let after : new.now.trees ≡ written.0 = ap (λ (d : Database). d.trees) now ∙ trees in
         record {
           schema_is = ap (λ (d : Database). d.schema) now ∙ sym has;
           free = rows_new (db tree) cells wrote.fresh;
           rows = ap (λ (t : Trees). t tree) after ∙ wrote.rows ∙ rows_come (db tree) cells;
-          others = own (λ t. t ≢ tree → new.now.trees t ≡ db t) (subst (λ (t : Trees). AllByRecursion (λ s. s.tree ≢ tree → t s.tree ≡ db s.tree) schema.tables) (sym after) wrote.tables);
+          others = own (λ t. t ≢ tree → new.now.trees t ≡ db t)
+              (subst (λ (t : Trees). AllByRecursion (λ s. s.tree ≢ tree → t s.tree ≡ db s.tree) schema.tables) (sym after) wrote.tables);
           sound = λ _. w.sound;
         }
       where
@@ -134,16 +148,19 @@ module _ (schema : Schema) (sql : List ℕ) (at : ℕ) (name : List ℕ) (tree :
         cast_all [] h = refl
         cast_all (c ∷ cells) h = ap₂ (λ r rs. r ∷ rs) h.0 (cast_all cells h.1)
 
-    pub deleted : (tests : List Term) (command : command_of (understood schema sql) ≡ Delete at (record { lets = []; body = one_table tree tests (col 1 0 ∷ []) })) (plain : IsPlain (understood schema sql))
+    pub deleted : (tests : List Term) (command : command_of (understood schema sql)
+        ≡ Delete at (record { lets = []; body = one_table tree tests (col 1 0 ∷ []) })) (plain : IsPlain (understood schema sql))
         → ((olds : List Row) → works schema Enforced 0 tree olds [] ≡ [])
-        → (params : Row) (old new : State) (count : ℕ) → old.now.schema ≡ schema → RowNumbersDiffer (old.now.trees tree) → Executes sql params old new (Ok count)
+        → (params : Row) (old new : State) (count : ℕ) → old.now.schema ≡ schema → RowNumbersDiffer (old.now.trees tree)
+        → Executes sql params old new (Ok count)
         → Drops tree (passes tests params) old.now new.now
     deleted tests command plain idle params old new count has apart h =
         let db = old.now.trees in
         let q : Program = record { lets = []; body = one_table tree tests (col 1 0 ∷ []) } in
         let w = runs_as sql params old new schema has _ command plain count h in
         let text = statement_of sql (understood schema sql) in
-        let changed = subst (λ s. Does old.step_limit (mode_of old) params (record old.now { schema = s }) text None (Delete at q) (Ok (w.tally, new.now))) has w.changed in
+        let changed = subst (λ s. Does old.step_limit (mode_of old) params (record old.now { schema = s }) text None (Delete at q)
+        (Ok (w.tally, new.now))) has w.changed in
         let done = went (rw place at changed) in
         let now = ap (λ (p : Tally × Database). p.1) (same_value (went (went done.2).2).2) in
         let queried = went done.1 in
@@ -152,53 +169,68 @@ module _ (schema : Schema) (sql : List ℕ) (at : ℕ) (name : List ℕ) (tree :
         let edit : Edit = record { table = table; gone = ids_of queried.0; news = [] } in
         let wrote = one_step schema Enforced db written.0 edit (idle (taken_by db edit)) written.1 in
         let after : new.now.trees ≡ written.0 = ap (λ (d : Database). d.trees) now ∙ trees in
-        let shown : IsPermutation (map (λ r. rowid r ∷ []) (filter (passes tests params) (db tree))) queried.0 = query_answered tree tests (col 1 0 ∷ []) db params queried.0 (queried.1.answer) in
+        let shown : IsPermutation (map (λ r. rowid r ∷ []) (filter (passes tests params) (db tree))) queried.0 =
+        query_answered tree tests (col 1 0 ∷ []) db params queried.0 (queried.1.answer) in
         record {
           schema_is = ap (λ (d : Database). d.schema) now ∙ sym has;
           rows = ap (λ (t : Trees). t tree) after ∙ wrote.rows ∙ left_is (passes tests params) (λ _. []) (db tree) queried.0 apart shown;
-          others = own (λ t. t ≢ tree → new.now.trees t ≡ db t) (subst (λ (t : Trees). AllByRecursion (λ s. s.tree ≢ tree → t s.tree ≡ db s.tree) schema.tables) (sym after) wrote.tables);
+          others = own (λ t. t ≢ tree → new.now.trees t ≡ db t)
+              (subst (λ (t : Trees). AllByRecursion (λ s. s.tree ≢ tree → t s.tree ≡ db s.tree) schema.tables) (sym after) wrote.tables);
           sound = w.sound;
         }
 
     -- an UPDATE of the one row that passes
-    pub updated : (tests project : List Term) (command : command_of (understood schema sql) ≡ Update at (record { lets = []; body = one_table tree tests (col 1 0 ∷ project) })) (plain : IsPlain (understood schema sql))
+    pub updated : (tests project : List Term)
+        (command : command_of (understood schema sql) ≡ Update at (record { lets = []; body = one_table tree tests (col 1 0 ∷ project) }))
+        (plain : IsPlain (understood schema sql))
         → ((r new : Row) → works schema Enforced 0 tree (r ∷ []) (new ∷ []) ≡ [])
-        → (params : Row) (r : Row) (old new : State) (count : ℕ) → old.now.schema ≡ schema → RowNumbersDiffer (old.now.trees tree) → filter (passes tests params) (old.now.trees tree) ≡ r ∷ [] → Executes sql params old new (Ok count)
+        → (params : Row) (r : Row) (old new : State) (count : ℕ) → old.now.schema ≡ schema → RowNumbersDiffer (old.now.trees tree)
+        → filter (passes tests params) (old.now.trees tree) ≡ r ∷ [] → Executes sql params old new (Ok count)
         → Sets tree (passes tests params) (cast_row table (shown_as project params r)) old.now new.now
     updated tests project command plain idle params r old new count has apart one h =
         let db = old.now.trees in
         let q : Program = record { lets = []; body = one_table tree tests (col 1 0 ∷ project) } in
         let w = runs_as sql params old new schema has _ command plain count h in
         let text = statement_of sql (understood schema sql) in
-        let changed = subst (λ s. Does old.step_limit (mode_of old) params (record old.now { schema = s }) text None (Update at q) (Ok (w.tally, new.now))) has w.changed in
+        let changed = subst (λ s. Does old.step_limit (mode_of old) params (record old.now { schema = s }) text None (Update at q)
+        (Ok (w.tally, new.now))) has w.changed in
         let done = went (rw place at changed) in
         let now = ap (λ (p : Tally × Database). p.1) (same_value (went (went done.2).2).2) in
         let queried = went done.1 in
         let written = went queried.2 in
         let trees : done.0.trees ≡ written.0 = ap (λ (it : Written). it.trees) (same_value written.2) in
-        let shown : IsPermutation (map (shown_as (col 1 0 ∷ project) params) (filter (passes tests params) (db tree))) queried.0 = query_answered tree tests (col 1 0 ∷ project) db params queried.0 (queried.1.answer) in
+        let shown : IsPermutation (map (shown_as (col 1 0 ∷ project) params) (filter (passes tests params) (db tree))) queried.0 =
+        query_answered tree tests (col 1 0 ∷ project) db params queried.0 (queried.1.answer) in
         let first = shown_as (col 1 0 ∷ project) params r in
-        let rows : queried.0 ≡ first ∷ [] = one_permutation first queried.0 (subst (λ l. IsPermutation (map (shown_as (col 1 0 ∷ project) params) l) queried.0) one shown) in
+        let rows : queried.0 ≡ first ∷ [] = one_permutation first queried.0
+        (subst (λ l. IsPermutation (map (shown_as (col 1 0 ∷ project) params) l) queried.0) one shown) in
         let fresh = cast_row table (shown_as project params r) in
         let edit : Edit = record { table = table; gone = id_in (rowid r) ∷ []; news = fresh ∷ [] } in
-        let wrote = one_step schema Enforced db written.0 edit (idle _ fresh) (subst (λ l. Edited schema Enforced db (edit_of db table (ids_of l) Given 1 l) (Ok written.0)) rows written.1) in
+        let wrote = one_step schema Enforced db written.0 edit (idle _ fresh)
+        (subst (λ l. Edited schema Enforced db (edit_of db table (ids_of l) Given 1 l) (Ok written.0)) rows written.1) in
         let after : new.now.trees ≡ written.0 = ap (λ (d : Database). d.trees) now ∙ trees in
         let left : without_all (db tree) (id_in (rowid r) ∷ []) ≡ filter (λ x. not (passes tests params x)) (db tree) =
-        ap (without_all (db tree)) (ap ids_of (sym rows)) ∙ left_is (passes tests params) (shown_as project params) (db tree) queried.0 apart shown in
+        ap (without_all (db tree)) (ap ids_of (sym rows))
+        ∙ left_is (passes tests params) (shown_as project params) (db tree) queried.0 apart shown in
         record {
           schema_is = ap (λ (d : Database). d.schema) now ∙ sym has;
-          free = not_true _ (and_parts (not (is_taken (filter (λ x. not (passes tests params x)) (db tree)) fresh)) true (subst (λ l. are_fresh l (fresh ∷ []) ≡ true) left wrote.fresh)).0;
+          free = not_true _ (and_parts (not (is_taken (filter (λ x. not (passes tests params x)) (db tree)) fresh)) true
+              (subst (λ l. are_fresh l (fresh ∷ []) ≡ true) left wrote.fresh)).0;
           rows = ap (λ (t : Trees). t tree) after ∙ wrote.rows ∙ ap (put_row fresh) left;
-          others = own (λ t. t ≢ tree → new.now.trees t ≡ db t) (subst (λ (t : Trees). AllByRecursion (λ s. s.tree ≢ tree → t s.tree ≡ db s.tree) schema.tables) (sym after) wrote.tables);
+          others = own (λ t. t ≢ tree → new.now.trees t ≡ db t)
+              (subst (λ (t : Trees). AllByRecursion (λ s. s.tree ≢ tree → t s.tree ≡ db s.tree) schema.tables) (sym after) wrote.tables);
           sound = w.sound;
         }
 
   module _ (place : slice_get schema.tables at ≡ Some table) where
     -- an UPDATE of all rows that pass
-    pub altered : (tests project : List Term) (command : command_of (understood schema sql) ≡ Update at (record { lets = []; body = one_table tree tests (col 1 0 ∷ project) })) (plain : IsPlain (understood schema sql))
+    pub altered : (tests project : List Term)
+        (command : command_of (understood schema sql) ≡ Update at (record { lets = []; body = one_table tree tests (col 1 0 ∷ project) }))
+        (plain : IsPlain (understood schema sql))
         → ((olds news : List Row) → works schema Enforced 0 tree olds news ≡ [])
         → (params : Row) (old new : State) (count : ℕ) → old.now.schema ≡ schema → RowNumbersDiffer (old.now.trees tree)
-        → AllByRecursion HasNumber (map (λ r. cast_row table (shown_as project params r)) (filter (passes tests params) (old.now.trees tree))) → Executes sql params old new (Ok count)
+        → AllByRecursion HasNumber (map (λ r. cast_row table (shown_as project params r))
+        (filter (passes tests params) (old.now.trees tree))) → Executes sql params old new (Ok count)
         → AltersIn schema tree (passes tests params) (λ r. cast_row table (shown_as project params r)) old.now new.now
     altered tests project command plain idle params old new count has apart numbers h =
         let db = old.now.trees in
@@ -206,25 +238,34 @@ module _ (schema : Schema) (sql : List ℕ) (at : ℕ) (name : List ℕ) (tree :
         let q : Program = record { lets = []; body = one_table tree tests (col 1 0 ∷ project) } in
         let w = runs_as sql params old new schema has _ command plain count h in
         let text = statement_of sql (understood schema sql) in
-        let changed = subst (λ s. Does old.step_limit (mode_of old) params (record old.now { schema = s }) text None (Update at q) (Ok (w.tally, new.now))) has w.changed in
+        let changed = subst (λ s. Does old.step_limit (mode_of old) params (record old.now { schema = s }) text None (Update at q)
+        (Ok (w.tally, new.now))) has w.changed in
         let done = went (rw place at changed) in
         let now = ap (λ (p : Tally × Database). p.1) (same_value (went (went done.2).2).2) in
         let queried = went done.1 in
         let written = went queried.2 in
         let trees : done.0.trees ≡ written.0 = ap (λ (it : Written). it.trees) (same_value written.2) in
-        let shown : IsPermutation (map (shown_as (col 1 0 ∷ project) params) (filter p (db tree))) queried.0 = query_answered tree tests (col 1 0 ∷ project) db params queried.0 (queried.1.answer) in
+        let shown : IsPermutation (map (shown_as (col 1 0 ∷ project) params) (filter p (db tree))) queried.0 =
+        query_answered tree tests (col 1 0 ∷ project) db params queried.0 (queried.1.answer) in
         let cut : Row → Row = λ s. cast_row table (drop 1 s) in
         let news = map cut queried.0 in
         let left = filter (λ r. not (p r)) (db tree) in
         let edit : Edit = record { table = table; gone = ids_of queried.0; news = news } in
-        let edit_is : edit_of db table (ids_of queried.0) Given 1 queried.0 ≡ edit = ap (λ rows. record { table = table; gone = ids_of queried.0; news = rows }) (rows_stay (without_all (db tree) (ids_of queried.0)) news) in
-        let wrote = one_step schema Enforced db written.0 edit (idle (taken_by db edit) news) (subst (λ e. Edited schema Enforced db e (Ok written.0)) edit_is written.1) in
+        let edit_is : edit_of db table (ids_of queried.0) Given 1 queried.0
+        ≡ edit = ap (λ rows. record { table = table; gone = ids_of queried.0; news = rows })
+        (rows_stay (without_all (db tree) (ids_of queried.0)) news) in
+        let wrote = one_step schema Enforced db written.0 edit (idle (taken_by db edit) news)
+        (subst (λ e. Edited schema Enforced db e (Ok written.0)) edit_is written.1) in
         let after : new.now.trees ≡ written.0 = ap (λ (d : Database). d.trees) now ∙ trees in
-        let left_is_so : without_all (db tree) (ids_of queried.0) ≡ left = left_is p (shown_as project params) (db tree) queried.0 apart shown in
+        let left_is_so : without_all (db tree) (ids_of queried.0)
+        ≡ left = left_is p (shown_as project params) (db tree) queried.0 apart shown in
         let made : IsPermutation (map (λ r. cast_row table (shown_as project params r)) (filter p (db tree))) news =
-        subst (λ l. IsPermutation l news) (map-map cut (shown_as (col 1 0 ∷ project) params) (filter p (db tree))) (IsPermutation-map cut _ queried.0 shown) in
-        let put = rows_put left news (subst (λ l. are_fresh l news ≡ true) left_is_so wrote.fresh) (all_permuted HasNumber _ news made numbers) (apart_filter _ _ apart) in
-        let tree_is : put_all left news ≡ new.now.trees tree = sym (ap (λ (t : Trees). t tree) after ∙ wrote.rows ∙ ap (λ l. put_all l news) left_is_so) in
+        subst (λ l. IsPermutation l news) (map-map cut (shown_as (col 1 0 ∷ project) params) (filter p (db tree)))
+        (IsPermutation-map cut _ queried.0 shown) in
+        let put = rows_put left news (subst (λ l. are_fresh l news ≡ true) left_is_so wrote.fresh)
+        (all_permuted HasNumber _ news made numbers) (apart_filter _ _ apart) in
+        let tree_is : put_all left news ≡ new.now.trees tree =
+        sym (ap (λ (t : Trees). t tree) after ∙ wrote.rows ∙ ap (λ l. put_all l news) left_is_so) in
         record {
           schema_is = ap (λ (d : Database). d.schema) now;
           apart = subst RowNumbersDiffer tree_is put.1;

@@ -1,8 +1,7 @@
 -- The text of each query, and the value that it asks for.
 use Rattle.std.specs.Prelude.{◌∷◌, ◌++◌}
 use Rattle.portal_tables.specs.Base.{codes, ℕ, List, [], Words, Row}
-use Rattle.portal_tables.specs.declared.list_table.Lists.{Lists}
-use Rattle.portal_tables.specs.declared.list_table.Lists.TheVariants.{Choices, Rankings, SecondChoices, SecondRankings}
+use Rattle.portal_tables.specs.declared.list_table.Lists.TheVariants.{Choices}
 use Rattle.portal_tables.specs.declared.select.Query.{Query}
 use Rattle.portal_tables.specs.declared.select.Query.TheVariants.{Office, Whole, LecturerByCode, StudentByCode}
 use Rattle.portal_tables.specs.declared.select.Query.TheVariants.{LecturerByKey, StudentTold, AllLists, ListOf}
@@ -13,33 +12,7 @@ use Rattle.portal_tables.specs.declared.select.RollTable.{RollTable}
 use Rattle.portal_tables.specs.declared.select.RollTable.TheVariants.{Lecturers, Projects, Students}
 use Rattle.portal_tables.specs.declared.select.Table.{Table}
 use Rattle.portal_tables.specs.declared.select.Table.TheVariants.{OfRoll, OfLists, OfRanked, OfPlaces}
-use Rattle.portal_tables.specs.Tables.{choice_table}
-
--- a table of lists; the columns `owner` and `item` have the names of the rolls that they refer to
-pub record ListTable : Type 0 where
-  pub name : List ℕ
-  pub owner : List ℕ
-  pub item : List ℕ
-
--- the tables of students' lists and of lecturers' rankings, for each round
-abbrev pub choice_names : ListTable
-choice_names = record { name = codes "choice"; owner = codes "student"; item = codes "project" }
-
-abbrev pub ranking_names : ListTable
-ranking_names = record { name = codes "ranking"; owner = codes "lecturer"; item = codes "student" }
-
-abbrev pub choice2_names : ListTable
-choice2_names = record choice_names { name = codes "choice2" }
-
-abbrev pub ranking2_names : ListTable
-ranking2_names = record ranking_names { name = codes "ranking2" }
-
--- the names of this table
-abbrev pub names : Lists → ListTable
-names Choices = choice_names
-names Rankings = ranking_names
-names SecondChoices = choice2_names
-names SecondRankings = ranking2_names
+use Rattle.portal_tables.specs.Tables.{ListTable, names}
 
 -- the texts that show all rows, and the list of one owner
 abbrev pub all_text : ListTable → List ℕ
@@ -77,10 +50,10 @@ query_text (StudentTold key) = codes "SELECT key, name, assigned FROM student WH
 query_text (AllLists lists) = all_text (names lists)
 query_text (ListOf lists owner) = list_text (names lists)
 query_text (Choosers round project) =
-    codes "SELECT student FROM " ++ (names (choice_table round)).name ++ codes " WHERE project = ?1 ORDER BY student"
+    codes "SELECT student FROM " ++ (names (Choices round)).name ++ codes " WHERE project = ?1 ORDER BY student"
 query_text (ProjectsOf lecturer) = codes "SELECT key FROM project WHERE lecturer = ?1 ORDER BY key"
 query_text (Listed round) =
-    codes "SELECT student FROM " ++ (names (choice_table round)).name ++ codes " WHERE place = 1 ORDER BY student"
+    codes "SELECT student FROM " ++ (names (Choices round)).name ++ codes " WHERE place = 1 ORDER BY student"
 query_text FirstPlacements = codes "SELECT key, assigned FROM student ORDER BY key"
 query_text Second = codes "SELECT id, phase FROM second ORDER BY id"
 query_text SecondRanked = codes "SELECT lecturer FROM ranked2 ORDER BY lecturer"

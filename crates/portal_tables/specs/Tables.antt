@@ -1,9 +1,35 @@
 -- The portal's tables, six of the first round and five of the second, and which count as its own.
 use Rattle.std.specs.Prelude.{◌∷◌, ◌++◌, ◌≡◌}
 use Rattle.portal_tables.specs.Base.{[], codes, List, ℕ, Table, Schema, created, table_defined_by, fold, option_map_or}
-use Rattle.portal_tables.specs.Base.{result_ok, Round, First, Second, take, AllZip}
+use Rattle.portal_tables.specs.Base.{result_ok, First, Second, take, AllZip}
 use Rattle.portal_tables.specs.declared.list_table.Lists.{Lists}
-use Rattle.portal_tables.specs.declared.list_table.Lists.TheVariants.{Choices, Rankings, SecondChoices, SecondRankings}
+use Rattle.portal_tables.specs.declared.list_table.Lists.TheVariants.{Choices, Rankings}
+
+-- a table of lists; the columns `owner` and `item` have the names of the rolls that they refer to
+pub record ListTable : Type 0 where
+  pub name : List ℕ
+  pub owner : List ℕ
+  pub item : List ℕ
+
+-- the tables of a round's students' lists and lecturers' rankings
+abbrev pub choices_in : List ℕ → ListTable
+choices_in name = record { name = name; owner = codes "student"; item = codes "project" }
+
+abbrev pub rankings_in : List ℕ → ListTable
+rankings_in name = record { name = name; owner = codes "lecturer"; item = codes "student" }
+
+abbrev pub names : Lists → ListTable
+names (Choices First) = choices_in (codes "choice")
+names (Choices Second) = choices_in (codes "choice2")
+names (Rankings First) = rankings_in (codes "ranking")
+names (Rankings Second) = rankings_in (codes "ranking2")
+
+-- the text that creates a table of lists
+abbrev pub lists_text : ListTable → List ℕ
+lists_text t =
+    codes "CREATE TABLE " ++ t.name ++ codes " (" ++ t.owner ++ codes " TEXT NOT NULL REFERENCES " ++ t.owner
+    ++ codes " (key), place INTEGER NOT NULL, " ++ t.item ++ codes " TEXT NOT NULL REFERENCES " ++ t.item
+    ++ codes " (key), PRIMARY KEY (" ++ t.owner ++ codes ", place), UNIQUE (" ++ t.item ++ codes ", " ++ t.owner ++ codes ")) STRICT"
 
 -- the texts that create the tables of the first round, in this order
 abbrev pub first_texts : List (List ℕ)
@@ -17,22 +43,16 @@ first_texts =
     ++ codes "title TEXT NOT NULL, capacity INTEGER NOT NULL CHECK (capacity >= 1 AND capacity <= 200)) STRICT")
     ∷ (codes "CREATE TABLE student (key TEXT NOT NULL PRIMARY KEY, name TEXT NOT NULL, code TEXT NOT NULL UNIQUE, "
     ++ codes "assigned TEXT REFERENCES project (key)) STRICT")
-    ∷ (codes "CREATE TABLE choice (student TEXT NOT NULL REFERENCES student (key), place INTEGER NOT NULL, "
-    ++ codes "project TEXT NOT NULL REFERENCES project (key), PRIMARY KEY (student, place), UNIQUE (project, student)) STRICT")
-    ∷ (codes "CREATE TABLE ranking (lecturer TEXT NOT NULL REFERENCES lecturer (key), place INTEGER NOT NULL, "
-    ++ codes "student TEXT NOT NULL REFERENCES student (key), PRIMARY KEY (lecturer, place), UNIQUE (student, lecturer)) STRICT")
-    ∷ []
+    ∷ lists_text (names (Choices First)) ∷ lists_text (names (Rankings First)) ∷ []
 
 -- those of the second round
 abbrev pub second_texts : List (List ℕ)
 second_texts =
     (codes "CREATE TABLE second (id INTEGER NOT NULL PRIMARY KEY CHECK (id = 1), "
     ++ codes "phase INTEGER NOT NULL CHECK (phase >= 0 AND phase <= 3)) STRICT")
-    ∷ (codes "CREATE TABLE choice2 (student TEXT NOT NULL REFERENCES student (key), place INTEGER NOT NULL, "
-    ++ codes "project TEXT NOT NULL REFERENCES project (key), PRIMARY KEY (student, place), UNIQUE (project, student)) STRICT")
+    ∷ lists_text (names (Choices Second))
     ∷ codes "CREATE TABLE ranked2 (lecturer TEXT NOT NULL PRIMARY KEY REFERENCES lecturer (key)) STRICT"
-    ∷ (codes "CREATE TABLE ranking2 (lecturer TEXT NOT NULL REFERENCES lecturer (key), place INTEGER NOT NULL, "
-    ++ codes "student TEXT NOT NULL REFERENCES student (key), PRIMARY KEY (lecturer, place), UNIQUE (student, lecturer)) STRICT")
+    ∷ lists_text (names (Rankings Second))
     ∷ (codes "CREATE TABLE assigned2 (student TEXT NOT NULL PRIMARY KEY REFERENCES student (key), "
     ++ codes "project TEXT NOT NULL REFERENCES project (key)) STRICT")
     ∷ []
@@ -104,19 +124,10 @@ abbrev pub own_trees : List ℕ
 own_trees = first_trees ++ second_tree ∷ later_trees
 
 abbrev pub tree_of : Lists → ℕ
-tree_of Choices = choice_tree
-tree_of Rankings = ranking_tree
-tree_of SecondChoices = choice2_tree
-tree_of SecondRankings = ranking2_tree
-
--- the tables of a round's lists and rankings
-abbrev pub choice_table : Round → Lists
-choice_table First = Choices
-choice_table Second = SecondChoices
-
-abbrev pub ranking_table : Round → Lists
-ranking_table First = Rankings
-ranking_table Second = SecondRankings
+tree_of (Choices First) = choice_tree
+tree_of (Choices Second) = choice2_tree
+tree_of (Rankings First) = ranking_tree
+tree_of (Rankings Second) = ranking2_tree
 
 -- two tables that differ at most in the terms of CHECK and DEFAULT: a with those of b is b
 abbrev pub SameTable : Table → Table → Type 0

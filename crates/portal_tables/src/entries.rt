@@ -10,6 +10,7 @@ ghost use Rattle.portal_tables.specs.Tables.{tree_of};
 ghost use Rattle.portal_tables.specs.inner.Owners.{AreOwned, has_list, entry, with_list, IsRead};
 ghost use Rattle.portal_tables.specs.inner.Owners.{IsFine, IsFineList, IsListOf, AreEntriesOf};
 ghost use Rattle.portal_tables.specs.inner.Shown.{first_cell};
+ghost use Rattle.portal_tables.specs.declared.list_table.Lists.TheVariants.{Rankings};
 
 use crate::cells::{bytes_at, key_at, number_at};
 use crate::decode::{do_rise, list_from, push_some};
@@ -17,6 +18,7 @@ use crate::fault::TableFault;
 use crate::list_table::Lists;
 use crate::select::{Query, finds_any, read_rows};
 use crate::sorted_rolls::is_named;
+use portal_rules::Round;
 use spa_rows::Key;
 use sqlite::{Alter, Connection, Row};
 use std::alloc::Global;
@@ -39,8 +41,25 @@ pub fn list_in<S: Alter>(
     list_from(alloc, &rows)
 }
 
-/// Returns whether the owner in this row has a list. Every student has one. Only rankings of the
-/// second round need a query. Never fails with `Damaged`.
+/// Returns whether the lecturer in this row has a ranking. Only those of the second round need a
+/// query. Never fails with `Damaged`.
+fn has_ranking_in<S: Alter>(
+    conn: &mut Connection<S>,
+    round: Round,
+    row: &Row,
+) -> Result<bool, TableFault>
+    ensures reads { MayRead round S.Store IsDatabase
+        (Gives (λ db b. b ≡ has_list (Rankings round) db.trees row.now)) result conn.old conn.new }
+    ensures undamaged { result ≡ Err TableFault.Damaged → ⊥ }
+{
+    match round {
+        Round::First => Ok(number_at(row, 4) == 1),
+        Round::Second => Ok(finds_any(conn, Query::SecondRankedBy(bytes_at(row, 0)))?),
+    }
+}
+
+/// Returns whether the owner in this row has a list. Every student has one. Never fails with
+/// `Damaged`.
 pub fn has_list_in<S: Alter>(
     conn: &mut Connection<S>,
     lists: Lists,
@@ -51,9 +70,8 @@ pub fn has_list_in<S: Alter>(
     ensures undamaged { result ≡ Err TableFault.Damaged → ⊥ }
 {
     match lists {
-        Lists::Choices | Lists::SecondChoices => Ok(true),
-        Lists::Rankings => Ok(number_at(row, 4) == 1),
-        Lists::SecondRankings => Ok(finds_any(conn, Query::SecondRankedBy(bytes_at(row, 0)))?),
+        Lists::Choices(_) => Ok(true),
+        Lists::Rankings(round) => has_ranking_in(conn, round, row),
     }
 }
 

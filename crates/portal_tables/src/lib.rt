@@ -32,5 +32,5 @@ pub use results::{Assignment, assign_all, put_placements};
 pub use row_numbers::row_numbers_differ;
 pub use schema::PortalSchema;
 pub use sorted_rolls::{Rolls, is_named, parts_of, read_in_order, roll_in, rolls_in};
-pub use step::{Step, commit, settled};
-pub use update::{rank_second, set_second};
+pub use step::{TableChange, commit, outside_transaction};
+pub use update::{rank_second, set_phase};

@@ -1,59 +1,75 @@
 //! The four tables of lists: students' lists and lecturers' rankings in each round.
 
 ghost use Rattle.std.specs.Prelude.{◌≡◌};
-ghost use Rattle.portal_tables.specs.Tables as meant;
+ghost use Rattle.portal_tables.specs.Tables.{names};
 ghost use Rattle.portal_tables.specs.QueryTexts as asked;
-ghost use Rattle.portal_tables.specs.QueryTexts.{names};
 ghost use Rattle.portal_tables.specs.inner.Texts as texts;
-ghost use Rattle.portal_tables.specs.inner.Texts.{round_of};
 
 use portal_rules::Round;
 
 /// The tables of lists.
 #[derive(Clone, Copy, Drop)]
 pub enum Lists {
-    /// Students' lists of projects in the first round.
-    Choices,
-    /// Lecturers' rankings of students in the first round.
-    Rankings,
-    /// Students' lists of the second round.
-    SecondChoices,
-    /// Lecturers' rankings of the second round.
-    SecondRankings,
+    /// Students' lists of projects in a round.
+    Choices(Round),
+    /// Lecturers' rankings of students in a round.
+    Rankings(Round),
+}
+
+/// The statement that inserts eight rows into these three columns.
+macro_rules! insert_eight {
+    ($into:literal) => {
+        concat!(
+            "INSERT INTO ",
+            $into,
+            " VALUES (?1, ?2, ?3), (?4, ?5, ?6), (?7, ?8, ?9), (?10, ?11, ?12), \
+             (?13, ?14, ?15), (?16, ?17, ?18), (?19, ?20, ?21), (?22, ?23, ?24)"
+        )
+    };
 }
 
 impl Lists {
-    /// Returns the table of the students' lists of a round.
-    pub fn choices_of(round: Round) -> Lists
-        ensures is { result ≡ meant.choice_table round }
-        ensures round { round_of result ≡ round }
-    {
-        match round {
-            Round::First => Lists::Choices,
-            Round::Second => Lists::SecondChoices,
-        }
-    }
-
-    /// Returns the table of the rankings of a round.
-    pub fn rankings_of(round: Round) -> Lists
-        ensures is { result ≡ meant.ranking_table round }
-        ensures round { round_of result ≡ round }
-    {
-        match round {
-            Round::First => Lists::Rankings,
-            Round::Second => Lists::SecondRankings,
-        }
-    }
-
     /// Returns the statement that deletes one owner's rows.
     pub(crate) fn clear_text(self) -> &'static str
         ensures { result.now ≡ texts.clear_text (names self) }
     {
         match self {
-            Lists::Choices => "DELETE FROM choice WHERE student = ?1",
-            Lists::Rankings => "DELETE FROM ranking WHERE lecturer = ?1",
-            Lists::SecondChoices => "DELETE FROM choice2 WHERE student = ?1",
-            Lists::SecondRankings => "DELETE FROM ranking2 WHERE lecturer = ?1",
+            Lists::Choices(Round::First) => "DELETE FROM choice WHERE student = ?1",
+            Lists::Rankings(Round::First) => "DELETE FROM ranking WHERE lecturer = ?1",
+            Lists::Choices(Round::Second) => "DELETE FROM choice2 WHERE student = ?1",
+            Lists::Rankings(Round::Second) => "DELETE FROM ranking2 WHERE lecturer = ?1",
+        }
+    }
+
+    /// Returns the statement that inserts one row.
+    pub(crate) fn add_text(self) -> &'static str
+        ensures { result.now ≡ texts.add_text (names self) }
+    {
+        match self {
+            Lists::Choices(Round::First) => {
+                "INSERT INTO choice (student, place, project) VALUES (?1, ?2, ?3)"
+            }
+            Lists::Rankings(Round::First) => {
+                "INSERT INTO ranking (lecturer, place, student) VALUES (?1, ?2, ?3)"
+            }
+            Lists::Choices(Round::Second) => {
+                "INSERT INTO choice2 (student, place, project) VALUES (?1, ?2, ?3)"
+            }
+            Lists::Rankings(Round::Second) => {
+                "INSERT INTO ranking2 (lecturer, place, student) VALUES (?1, ?2, ?3)"
+            }
+        }
+    }
+
+    /// Returns the statement that inserts eight rows.
+    pub(crate) fn add_eight_text(self) -> &'static str
+        ensures { result.now ≡ texts.add_eight_text (names self) }
+    {
+        match self {
+            Lists::Choices(Round::First) => insert_eight!("choice (student, place, project)"),
+            Lists::Rankings(Round::First) => insert_eight!("ranking (lecturer, place, student)"),
+            Lists::Choices(Round::Second) => insert_eight!("choice2 (student, place, project)"),
+            Lists::Rankings(Round::Second) => insert_eight!("ranking2 (lecturer, place, student)"),
         }
     }
 
@@ -62,10 +78,10 @@ impl Lists {
         ensures { result.now ≡ asked.all_text (names self) }
     {
         match self {
-            Lists::Choices => "SELECT student, place, project FROM choice",
-            Lists::Rankings => "SELECT lecturer, place, student FROM ranking",
-            Lists::SecondChoices => "SELECT student, place, project FROM choice2",
-            Lists::SecondRankings => "SELECT lecturer, place, student FROM ranking2",
+            Lists::Choices(Round::First) => "SELECT student, place, project FROM choice",
+            Lists::Rankings(Round::First) => "SELECT lecturer, place, student FROM ranking",
+            Lists::Choices(Round::Second) => "SELECT student, place, project FROM choice2",
+            Lists::Rankings(Round::Second) => "SELECT lecturer, place, student FROM ranking2",
         }
     }
 
@@ -74,14 +90,16 @@ impl Lists {
         ensures { result.now ≡ asked.list_text (names self) }
     {
         match self {
-            Lists::Choices => "SELECT place, project FROM choice WHERE student = ?1 ORDER BY place",
-            Lists::Rankings => {
+            Lists::Choices(Round::First) => {
+                "SELECT place, project FROM choice WHERE student = ?1 ORDER BY place"
+            }
+            Lists::Rankings(Round::First) => {
                 "SELECT place, student FROM ranking WHERE lecturer = ?1 ORDER BY place"
             }
-            Lists::SecondChoices => {
+            Lists::Choices(Round::Second) => {
                 "SELECT place, project FROM choice2 WHERE student = ?1 ORDER BY place"
             }
-            Lists::SecondRankings => {
+            Lists::Rankings(Round::Second) => {
                 "SELECT place, student FROM ranking2 WHERE lecturer = ?1 ORDER BY place"
             }
         }

@@ -1,93 +1,93 @@
 //! Makes the portal's tables, and upgrades those of version 1.
 
 ghost use Rattle.std.specs.Prelude.{◌≡◌};
-ghost use Rattle.portal_tables.specs.inner.Base.{false, Err, OnOk, OnErr, IsTrue, HasCleanDisk};
+ghost use Rattle.portal_tables.specs.inner.Base.{false, map, Err, OnOk, OnErr, IsTrue, HasCleanDisk};
 ghost use Rattle.portal_tables.specs.inner.Base.{Survives, state};
 ghost use Rattle.portal_tables.specs.Steps.{Commits, IsAfter, LeavesOnly, Stays};
-ghost use Rattle.portal_tables.specs.Running.{Does, Made};
+ghost use Rattle.portal_tables.specs.Running.{Does, GoesOn};
 ghost use Rattle.portal_tables.specs.Making.{Creates, Upgrades};
-ghost use Rattle.portal_tables.specs.inner.MakingSteps.{Makes, MakesFirst, MakesSecond};
+ghost use Rattle.portal_tables.specs.inner.MakingSteps.{Makes, MakesEach};
 
 use crate::fault::TableFault;
 use crate::insert::{add_portal, add_second};
 use crate::office::VERSION;
 use crate::run::write;
-use crate::step::{Step, commit};
+use crate::step::{TableChange, commit};
 use crate::update::set_version;
 use sqlite::{Alter, Connection, Error, Transaction};
 use std::alloc::Global;
 
-const PORTAL: &str = "CREATE TABLE portal (id INTEGER NOT NULL PRIMARY KEY CHECK (id = 1), \
-     version INTEGER NOT NULL, phase INTEGER NOT NULL, office TEXT NOT NULL) STRICT";
-
-const LECTURER: &str = "CREATE TABLE lecturer (key TEXT NOT NULL PRIMARY KEY, name TEXT NOT NULL, \
-     code TEXT NOT NULL UNIQUE, \
-     capacity INTEGER NOT NULL CHECK (capacity >= 1 AND capacity <= 200), \
-     ranked INTEGER NOT NULL CHECK (ranked = 0 OR ranked = 1)) STRICT";
-
-const PROJECT: &str = "CREATE TABLE project (key TEXT NOT NULL PRIMARY KEY, \
-     lecturer TEXT NOT NULL REFERENCES lecturer (key), title TEXT NOT NULL, \
-     capacity INTEGER NOT NULL CHECK (capacity >= 1 AND capacity <= 200)) STRICT";
-
-const STUDENT: &str = "CREATE TABLE student (key TEXT NOT NULL PRIMARY KEY, name TEXT NOT NULL, \
-     code TEXT NOT NULL UNIQUE, assigned TEXT REFERENCES project (key)) STRICT";
-
-const CHOICE: &str = "CREATE TABLE choice (student TEXT NOT NULL REFERENCES student (key), \
-     place INTEGER NOT NULL, project TEXT NOT NULL REFERENCES project (key), \
-     PRIMARY KEY (student, place), UNIQUE (project, student)) STRICT";
-
-const RANKING: &str = "CREATE TABLE ranking (lecturer TEXT NOT NULL REFERENCES lecturer (key), \
-     place INTEGER NOT NULL, student TEXT NOT NULL REFERENCES student (key), \
-     PRIMARY KEY (lecturer, place), UNIQUE (student, lecturer)) STRICT";
-
-const SECOND: &str = "CREATE TABLE second (id INTEGER NOT NULL PRIMARY KEY CHECK (id = 1), \
-     phase INTEGER NOT NULL CHECK (phase >= 0 AND phase <= 3)) STRICT";
-
-const CHOICE2: &str = "CREATE TABLE choice2 (student TEXT NOT NULL REFERENCES student (key), \
-     place INTEGER NOT NULL, project TEXT NOT NULL REFERENCES project (key), \
-     PRIMARY KEY (student, place), UNIQUE (project, student)) STRICT";
-
-const RANKED2: &str =
-    "CREATE TABLE ranked2 (lecturer TEXT NOT NULL PRIMARY KEY REFERENCES lecturer (key)) STRICT";
-
-const RANKING2: &str = "CREATE TABLE ranking2 (lecturer TEXT NOT NULL REFERENCES lecturer (key), \
-     place INTEGER NOT NULL, student TEXT NOT NULL REFERENCES student (key), \
-     PRIMARY KEY (lecturer, place), UNIQUE (student, lecturer)) STRICT";
-
-const ASSIGNED2: &str =
-    "CREATE TABLE assigned2 (student TEXT NOT NULL PRIMARY KEY REFERENCES student (key), \
-     project TEXT NOT NULL REFERENCES project (key)) STRICT";
-
-/// Creates the six tables of the first round, all empty, in a database with an empty schema.
-fn make_first<S: Alter>(tx: &mut Transaction<'_, S>) -> Result<(), Error>
-    ensures { Does S.Store (Made MakesFirst) result tx.old tx.new }
-{
-    write(tx, PORTAL, &[])?;
-    write(tx, LECTURER, &[])?;
-    write(tx, PROJECT, &[])?;
-    write(tx, STUDENT, &[])?;
-    write(tx, CHOICE, &[])?;
-    write(tx, RANKING, &[])
+/// The text that creates a table of lists; the columns of owner and item have the names of the rolls
+/// that they refer to.
+macro_rules! lists_text {
+    ($name:literal, $owner:literal, $item:literal) => {
+        concat!(
+            "CREATE TABLE ",
+            $name,
+            " (",
+            $owner,
+            " TEXT NOT NULL REFERENCES ",
+            $owner,
+            " (key), place INTEGER NOT NULL, ",
+            $item,
+            " TEXT NOT NULL REFERENCES ",
+            $item,
+            " (key), PRIMARY KEY (",
+            $owner,
+            ", place), UNIQUE (",
+            $item,
+            ", ",
+            $owner,
+            ")) STRICT"
+        )
+    };
 }
 
-/// Creates the five tables of the second round, all empty, after the first round's six.
-fn make_second<S: Alter>(tx: &mut Transaction<'_, S>) -> Result<(), Error>
-    ensures { Does S.Store (Made MakesSecond) result tx.old tx.new }
+/// The texts that create the tables of the first round, in this order.
+const FIRST: [&str; 6] = [
+    "CREATE TABLE portal (id INTEGER NOT NULL PRIMARY KEY CHECK (id = 1), \
+     version INTEGER NOT NULL, phase INTEGER NOT NULL, office TEXT NOT NULL) STRICT",
+    "CREATE TABLE lecturer (key TEXT NOT NULL PRIMARY KEY, name TEXT NOT NULL, \
+     code TEXT NOT NULL UNIQUE, \
+     capacity INTEGER NOT NULL CHECK (capacity >= 1 AND capacity <= 200), \
+     ranked INTEGER NOT NULL CHECK (ranked = 0 OR ranked = 1)) STRICT",
+    "CREATE TABLE project (key TEXT NOT NULL PRIMARY KEY, \
+     lecturer TEXT NOT NULL REFERENCES lecturer (key), title TEXT NOT NULL, \
+     capacity INTEGER NOT NULL CHECK (capacity >= 1 AND capacity <= 200)) STRICT",
+    "CREATE TABLE student (key TEXT NOT NULL PRIMARY KEY, name TEXT NOT NULL, \
+     code TEXT NOT NULL UNIQUE, assigned TEXT REFERENCES project (key)) STRICT",
+    lists_text!("choice", "student", "project"),
+    lists_text!("ranking", "lecturer", "student"),
+];
+
+/// Those of the second round.
+const SECOND: [&str; 5] = [
+    "CREATE TABLE second (id INTEGER NOT NULL PRIMARY KEY CHECK (id = 1), \
+     phase INTEGER NOT NULL CHECK (phase >= 0 AND phase <= 3)) STRICT",
+    lists_text!("choice2", "student", "project"),
+    "CREATE TABLE ranked2 (lecturer TEXT NOT NULL PRIMARY KEY REFERENCES lecturer (key)) STRICT",
+    lists_text!("ranking2", "lecturer", "student"),
+    "CREATE TABLE assigned2 (student TEXT NOT NULL PRIMARY KEY REFERENCES student (key), \
+     project TEXT NOT NULL REFERENCES project (key)) STRICT",
+];
+
+/// Executes texts that create tables, one after another. The tables are empty.
+fn make_each<S: Alter>(tx: &mut Transaction<'_, S>, texts: &[&str]) -> Result<(), Error>
+    ensures { Does S.Store (GoesOn (MakesEach (map (λ t. t.now) texts.now))) result tx.old tx.new }
 {
-    write(tx, SECOND, &[])?;
-    write(tx, CHOICE2, &[])?;
-    write(tx, RANKED2, &[])?;
-    write(tx, RANKING2, &[])?;
-    write(tx, ASSIGNED2, &[])
+    for text in texts {
+        write(tx, *text, &[])?;
+    }
+    Ok(())
 }
 
 /// Creates all the portal's tables, empty, in a database with an empty schema. After an error the
 /// caller should drop the transaction to roll it back.
 pub(crate) fn make_tables<S: Alter>(tx: &mut Transaction<'_, S>) -> Result<(), Error>
-    ensures { Does S.Store (Made Makes) result tx.old tx.new }
+    ensures { Does S.Store (GoesOn Makes) result tx.old tx.new }
 {
-    make_first(tx)?;
-    make_second(tx)
+    make_each(tx, &FIRST)?;
+    make_each(tx, &SECOND)
 }
 
 /// The step that creates the tables. Only `portal` and `second` get a row: the first holds this
@@ -96,7 +96,7 @@ struct MakePortal<'a> {
     office: &'a [u8],
 }
 
-impl Step for MakePortal<'_> {
+impl TableChange for MakePortal<'_> {
     ghost makes = { λ s. Creates s.office.now };
 
     fn take<S: Alter>(self, _alloc: Global, tx: &mut Transaction<'_, S>) -> Result<(), Error> {
@@ -135,11 +135,11 @@ pub fn create_portal<S: Alter>(
 #[derive(Drop)]
 struct Upgrade;
 
-impl Step for Upgrade {
+impl TableChange for Upgrade {
     ghost makes = { λ _. Upgrades };
 
     fn take<S: Alter>(self, _alloc: Global, tx: &mut Transaction<'_, S>) -> Result<(), Error> {
-        make_second(tx)?;
+        make_each(tx, &SECOND)?;
         add_second(tx)?;
         set_version(tx, VERSION)
     }

@@ -69,9 +69,9 @@ pub fn assign_all<S: Alter>(
 
 /// The table of the second round's result.
 #[derive(Clone, Copy, Drop)]
-struct Places;
+struct Placements;
 
-impl Target<(Key, Key)> for Places {
+impl Target<(Key, Key)> for Placements {
     ghost tree = { λ _. assigned2_tree };
 
     ghost cells = { pair_new };
@@ -105,5 +105,5 @@ pub fn put_placements<S: Alter>(
     ensures { Does S.Store (GoesOn (PutsPlacements pairs.now)) result tx.old tx.new }
 {
     write(tx, "DELETE FROM assigned2", &[])?;
-    add_all(alloc, tx, &Places, pairs)
+    add_all(alloc, tx, &Placements, pairs)
 }

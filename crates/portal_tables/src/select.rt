@@ -68,10 +68,18 @@ impl Table {
             Table::OfRoll(RollTable::Lecturers) => "SELECT rowid FROM lecturer ORDER BY rowid",
             Table::OfRoll(RollTable::Projects) => "SELECT rowid FROM project ORDER BY rowid",
             Table::OfRoll(RollTable::Students) => "SELECT rowid FROM student ORDER BY rowid",
-            Table::OfLists(Lists::Choices) => "SELECT rowid FROM choice ORDER BY rowid",
-            Table::OfLists(Lists::Rankings) => "SELECT rowid FROM ranking ORDER BY rowid",
-            Table::OfLists(Lists::SecondChoices) => "SELECT rowid FROM choice2 ORDER BY rowid",
-            Table::OfLists(Lists::SecondRankings) => "SELECT rowid FROM ranking2 ORDER BY rowid",
+            Table::OfLists(Lists::Choices(Round::First)) => {
+                "SELECT rowid FROM choice ORDER BY rowid"
+            }
+            Table::OfLists(Lists::Rankings(Round::First)) => {
+                "SELECT rowid FROM ranking ORDER BY rowid"
+            }
+            Table::OfLists(Lists::Choices(Round::Second)) => {
+                "SELECT rowid FROM choice2 ORDER BY rowid"
+            }
+            Table::OfLists(Lists::Rankings(Round::Second)) => {
+                "SELECT rowid FROM ranking2 ORDER BY rowid"
+            }
             Table::OfRanked => "SELECT rowid FROM ranked2 ORDER BY rowid",
             Table::OfPlaces => "SELECT rowid FROM assigned2 ORDER BY rowid",
         }

@@ -1,4 +1,4 @@
-//! Commits a step in a transaction of its own; `settled` states what holds outside one.
+//! Commits a step in a transaction of its own; `outside_transaction` states what holds outside one.
 
 ghost use Rattle.std.specs.Prelude.{◌≡◌};
 ghost use Rattle.portal_tables.specs.inner.Base.{false, Err, OnOk, OnErr, IsTrue, HasCleanDisk};
@@ -12,7 +12,7 @@ use sqlite::{Alter, Connection, Error, Transaction};
 use std::alloc::Global;
 
 /// A change of the tables within one transaction.
-pub trait Step {
+pub trait TableChange {
     // how the step changes the database
     ghost makes: { Self → Database → Database → Type 0 };
 
@@ -23,9 +23,9 @@ pub trait Step {
 
 /// States for proofs what holds of a connection outside a transaction, and does nothing. Such a
 /// connection shows what is committed, and an open one has a sound database.
-pub fn settled<S: Alter>(conn: &Connection<S>)
+pub fn outside_transaction<S: Alter>(conn: &Connection<S>)
     requires idle { conn.now.in_transaction ≡ false }
-    ensures settled { IsCommitted (state S.Store conn.now) }
+    ensures committed { IsCommitted (state S.Store conn.now) }
     ensures live { IsLive (state S.Store conn.now) }
 {
     let _idle = conn.is_autocommit();
@@ -35,7 +35,7 @@ pub fn settled<S: Alter>(conn: &Connection<S>)
 /// Performs the step in a transaction of its own and commits it. After an error nothing has
 /// changed, if the disk is clean and the connection still open. The fault is never `Damaged`. After
 /// `Ok`, a crash leaves the result of the step, if the disk is clean.
-pub fn commit<S: Alter, T: Step>(
+pub fn commit<S: Alter, T: TableChange>(
     alloc: Global,
     conn: &mut Connection<S>,
     step: T,
@@ -52,7 +52,7 @@ pub fn commit<S: Alter, T: Step>(
     ensures crash { Survives (state S.Store conn.old) (state S.Store conn.new)
         (IsAfter (T.makes step) (state S.Store conn.old)) }
 {
-    settled(conn);
+    outside_transaction(conn);
     let mut tx = conn.transaction();
     step.take(alloc, &mut tx)?;
     tx.commit()?;

@@ -1,37 +1,38 @@
 //! Sets a round's phase or the version, and records that a lecturer has a ranking.
 
+ghost use Rattle.std.specs.Prelude.{◌≡◌};
 ghost use Rattle.portal_tables.specs.Rows.{number_of_phase};
+ghost use Rattle.portal_tables.specs.inner.Texts as texts;
 ghost use Rattle.portal_tables.specs.Running.{Does, Made};
-ghost use Rattle.portal_tables.specs.inner.RowChanges.{IsOfVersion, MovesSecond, MovesTo, MarksRanked};
+ghost use Rattle.portal_tables.specs.inner.RowChanges.{IsOfVersion, MovesTo, MarksRanked};
 ghost use Rattle.portal_tables.specs.inner.Putting.{RanksSecond};
 
 use crate::office::phase_number;
 use crate::run::write;
-use portal_rules::Phase;
+use portal_rules::{Phase, Round};
 use sqlite::types::{ToSql, ValueRef};
 use sqlite::{Alter, Error, Transaction};
 
-/// Writes the first round's phase into the row of `portal`.
-pub fn set_phase<S: Alter>(tx: &mut Transaction<'_, S>, phase: Phase) -> Result<(), Error>
-    ensures { Does S.Store (Made (MovesTo (number_of_phase phase))) result tx.old tx.new }
+/// Returns the statement that sets a round's phase.
+fn phase_text(round: Round) -> &'static str
+    ensures { result.now ≡ texts.phase_text round }
 {
-    write(
-        tx,
-        "UPDATE portal SET phase = ?1 WHERE id = 1",
-        &[phase_number(phase).to_sql()],
-    )
+    match round {
+        Round::First => "UPDATE portal SET phase = ?1 WHERE id = 1",
+        Round::Second => "UPDATE second SET phase = ?1 WHERE id = 1",
+    }
 }
 
-/// Writes the second round's phase into the row of `second`. The phase `Setup` means that there is
-/// no second round.
-pub fn set_second<S: Alter>(tx: &mut Transaction<'_, S>, phase: Phase) -> Result<(), Error>
-    ensures { Does S.Store (Made (MovesSecond (number_of_phase phase))) result tx.old tx.new }
+/// Writes a round's phase into the row of `portal`, or for the second round into that of `second`,
+/// where the phase `Setup` means that there is no second round.
+pub fn set_phase<S: Alter>(
+    tx: &mut Transaction<'_, S>,
+    round: Round,
+    phase: Phase,
+) -> Result<(), Error>
+    ensures { Does S.Store (Made (MovesTo round (number_of_phase phase))) result tx.old tx.new }
 {
-    write(
-        tx,
-        "UPDATE second SET phase = ?1 WHERE id = 1",
-        &[phase_number(phase).to_sql()],
-    )
+    write(tx, phase_text(round), &[phase_number(phase).to_sql()])
 }
 
 /// Writes the version into the row of `portal`.

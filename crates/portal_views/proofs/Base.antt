@@ -43,12 +43,11 @@ pub use Rattle.portal_tables.proofs.Texts.{key_texts}
 pub use Rattle.portal_tables.proofs.Weak.{Open, own_is, schema_with, with_checks}
 pub use Rattle.portal_tables.specs.Rows.{RowNumbersDiffer, has_text, row_key, by_place, chosen, named_by, of_key}
 pub use Rattle.portal_tables.specs.Rows.{place_key, IsWhole, CountUp, place_of}
-pub use Rattle.portal_tables.specs.Tables.{choice_table, ranking_table, tree_of, assigned2_tree, lecturer_tree}
+pub use Rattle.portal_tables.specs.Tables.{tree_of, assigned2_tree, lecturer_tree}
 pub use Rattle.portal_tables.specs.Tables.{project_tree, student_tree, IsCurrentSchema, HasFirstSchema}
 pub use Rattle.portal_tables.specs.declared.fault.TableFault.{TableFault}
 pub use Rattle.portal_tables.specs.declared.list_table.Lists.{Lists}
-pub use Rattle.portal_tables.specs.declared.list_table.Lists.TheVariants.{Choices, Rankings, SecondChoices}
-pub use Rattle.portal_tables.specs.declared.list_table.Lists.TheVariants.{SecondRankings}
+pub use Rattle.portal_tables.specs.declared.list_table.Lists.TheVariants.{Choices, Rankings}
 pub use Rattle.portal_tables.specs.declared.select.RollTable.{RollTable}
 pub use Rattle.portal_tables.specs.declared.select.RollTable.TheVariants.{Lecturers, Projects, Students}
 pub use Rattle.portal_tables.specs.declared.select.Table.TheVariants.{OfLists, OfPlaces, OfRoll}

@@ -1,10 +1,10 @@
 -- Who names a project, of the keys that a query of the lists shows.
-use Rattle.portal_views.proofs.Base.{◌≡◌, ◌&&◌, ◌∷◌, permuted, any_alike, has_round, OnRoll, owners_of, IsPlace}
-use Rattle.portal_views.proofs.Base.{has_text_of, permutes, all_permuted, Bool, true, List, [], map, filter, refl, sym}
-use Rattle.portal_views.proofs.Base.{ap, ap₂, subst, ◌∙◌, AllByRecursion, list_any, and_comm, list_any-IsPermutation}
+use Rattle.portal_views.proofs.Base.{◌≡◌, ◌&&◌, ◌∷◌, permuted, any_alike, has_round, OnRoll, IsPlace}
+use Rattle.portal_views.proofs.Base.{has_text_of, permutes, all_permuted, Bool, true, List, [], map, filter, sym}
+use Rattle.portal_views.proofs.Base.{ap, ap₂, ◌∙◌, AllByRecursion, list_any, and_comm, list_any-IsPermutation}
 use Rattle.portal_views.proofs.Base.{Row, column, bytes, Database, all-filter, Key, equals, has, all_weaker, all_map}
-use Rattle.portal_views.proofs.Base.{any_map, filtered_any, is_sym, student_tree, Round, First, Second, choice_table}
-use Rattle.portal_views.proofs.Base.{round_of, tree_of, RowNumbersDiffer, ListsBy, columns, has_text, of_key, named_by}
+use Rattle.portal_views.proofs.Base.{any_map, filtered_any, is_sym, student_tree, Round, First, Second, Choices}
+use Rattle.portal_views.proofs.Base.{tree_of, RowNumbersDiffer, ListsBy, columns, has_text, of_key, named_by}
 use Rattle.portal_views.proofs.Base.{place_key, by_place, chosen, row_key, students_shown, first_cell, HasTables}
 use Rattle.portal_views.proofs.Base.{place_parents, place_rows_formed}
 use Rattle.portal_views.proofs.Owners.{shown_there}
@@ -21,23 +21,24 @@ named_where t table shown lists k =
 
 -- the rows of a round's choices, in tables that are the portal's own
 module _ (round : Round) (db : Database) (tables : HasTables db) where
-  pub choices_apart : RowNumbersDiffer (db.trees (tree_of (choice_table round)))
-  choices_apart = elim round as (λ (r : Round). RowNumbersDiffer (db.trees (tree_of (choice_table r)))) [ First ↦ tables.apart.1.1.1.1.0 | Second ↦ tables.apart.1.1.1.1.1.1.1.0 ]
+  pub choices_apart : RowNumbersDiffer (db.trees (tree_of (Choices round)))
+  choices_apart = elim round as (λ (r : Round). RowNumbersDiffer
+      (db.trees (tree_of (Choices r)))) [ First ↦ tables.apart.1.1.1.1.0 | Second ↦ tables.apart.1.1.1.1.1.1.1.0 ]
 
-  pub choices_formed : AllByRecursion IsPlace (db.trees (tree_of (choice_table round)))
-  choices_formed = place_rows_formed db (choice_table round) (has_round (round_of (choice_table round)) db.schema tables.current) tables.sound choices_apart
+  pub choices_formed : AllByRecursion IsPlace (db.trees (tree_of (Choices round)))
+  choices_formed = place_rows_formed db (Choices round) (has_round round db.schema tables.current) tables.sound choices_apart
 
   -- whose choices they are is on the roll
-  pub choices_parents : AllByRecursion (λ r. OnRoll (db.trees student_tree) (row_key r)) (db.trees (tree_of (choice_table round)))
+  pub choices_parents : AllByRecursion (λ r. OnRoll (db.trees student_tree) (row_key r)) (db.trees (tree_of (Choices round)))
   choices_parents =
-      let lists = choice_table round in
-      let owners : owners_of lists ≡ student_tree = elim round as (λ (r : Round). owners_of (choice_table r) ≡ student_tree) [ First ↦ refl | Second ↦ refl ] in
-      all_weaker _ _ (λ r both. subst (λ t. OnRoll (db.trees t) (row_key r)) owners both.0) (db.trees (tree_of lists)) (place_parents db lists (has_round (round_of lists) db.schema tables.current) tables.sound choices_apart)
+      all_weaker _ _ (λ r both. both.0) (db.trees (tree_of (Choices round)))
+      (place_parents db (Choices round) (has_round round db.schema tables.current) tables.sound choices_apart)
 
 -- a student is among those who name the project where the student's list names it
-module _ (round : Round) (db : Database) (tables : HasTables db) (p : Key) (shown : List Row) (lists : ListsBy (1 ∷ []) (has_text 3 p) (columns (1 ∷ [])) (db.trees (tree_of (choice_table round))) shown) where
+module _ (round : Round) (db : Database) (tables : HasTables db) (p : Key) (shown : List Row)
+    (lists : ListsBy (1 ∷ []) (has_text 3 p) (columns (1 ∷ [])) (db.trees (tree_of (Choices round))) shown) where
   abbrev table : List Row
-  table = db.trees (tree_of (choice_table round))
+  table = db.trees (tree_of (Choices round))
 
   alike : (k : Key) (r : Row) → IsPlace r
       → (has_text 3 p r && equals k (row_key r)) ≡ (has_text 1 k r && equals p (named_by r))
@@ -52,16 +53,20 @@ module _ (round : Round) (db : Database) (tables : HasTables db) (p : Key) (show
   chooser k =
       let right : has (chosen table k) p ≡ list_any (λ r. has_text 1 k r && equals p (named_by r)) table =
       any_map (equals p) named_by (by_place (of_key k table))
-      ∙ sym (list_any-IsPermutation (λ r. equals p (named_by r)) (of_key k table) (by_place (of_key k table)) (permutes place_key (of_key k table)))
+      ∙ sym (list_any-IsPermutation (λ r. equals p (named_by r)) (of_key k table) (by_place (of_key k table))
+      (permutes place_key (of_key k table)))
       ∙ filtered_any (λ r. equals p (named_by r)) (has_text 1 k) table in
-      named_where (has_text 3 p) table shown lists k ∙ any_alike _ _ table (all_weaker IsPlace _ (alike k) table (choices_formed round db tables)) ∙ sym right
+      named_where (has_text 3 p) table shown lists k
+      ∙ any_alike _ _ table (all_weaker IsPlace _ (alike k) table (choices_formed round db tables)) ∙ sym right
 
   -- who names the project is on the roll
   pub choosers_known : AllByRecursion (λ k. has (map first_cell (students_shown db.trees)) k ≡ true) (map first_cell shown)
   choosers_known =
       let Known : Key → Type 0 = λ k. has (map first_cell (students_shown db.trees)) k ≡ true in
       let rows : AllByRecursion (λ r. Known (row_key r)) table =
-      all_weaker _ (λ r. Known (row_key r)) (λ r known. shown_there (2 ∷ 3 ∷ 4 ∷ []) (db.trees student_tree) (row_key r) known) table (choices_parents round db tables) in
+      all_weaker _ (λ r. Known (row_key r)) (λ r known. shown_there (2 ∷ 3 ∷ 4 ∷ []) (db.trees student_tree) (row_key r) known) table
+      (choices_parents round db tables) in
       let mapped : AllByRecursion (λ c. Known (first_cell c)) (map (columns (1 ∷ [])) (filter (has_text 3 p) table)) =
-      all_map (λ c. Known (first_cell c)) (columns (1 ∷ [])) (filter (has_text 3 p) table) (all-filter (λ r. Known (row_key r)) (has_text 3 p) table rows) in
+      all_map (λ c. Known (first_cell c)) (columns (1 ∷ [])) (filter (has_text 3 p) table)
+      (all-filter (λ r. Known (row_key r)) (has_text 3 p) table rows) in
       all_map Known first_cell shown (all_permuted (λ c. Known (first_cell c)) _ shown (permuted _ _ _ table shown lists) mapped)

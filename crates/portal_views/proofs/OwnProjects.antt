@@ -23,20 +23,30 @@ own_found db tables k shown lists up =
     let pair : Row → Row × Row = λ r. (columns (1 ∷ []) r, columns (1 ∷ []) r) in
     let mine : List Row = filter p table in
     let whole : ListsBy (1 ∷ []) every (columns (1 ∷ [])) mine shown =
-    record { keyed = lists.keyed; same = subst (λ rows. IsPermutation (map pair rows) lists.keyed) (sym (filter_all mine)) lists.same; sorted = lists.sorted; is = lists.is } in
+    record {
+      keyed = lists.keyed;
+      same = subst (λ rows. IsPermutation (map pair rows) lists.keyed) (sym (filter_all mine)) lists.same;
+      sorted = lists.sorted;
+      is = lists.is;
+    } in
     let agree : mine ≡ filter q table = filter_alike p q table
-    (all_weaker (λ r. IsText (column r 2)) _ (λ r text. has_text_of 2 k r text.0 text.1 ∙ ap (λ v. equals (bytes v) k) (sym text.1)) table (project_rows_formed db tables.own tables.sound tables.apart.1.1.0)) in
-    let order : filter q (by_key table) ≡ by_key (filter q table) = in_order row_key (filter q table) (filter q (by_key table)) (IsPermutation-filter q table (by_key table) (permutes row_key table))
+    (all_weaker (λ r. IsText (column r 2)) _ (λ r text. has_text_of 2 k r text.0 text.1 ∙ ap (λ v. equals (bytes v) k) (sym text.1)) table
+    (project_rows_formed db tables.own tables.sound tables.apart.1.1.0)) in
+    let order : filter q (by_key table) ≡ by_key (filter q table) =
+    in_order row_key (filter q table) (filter q (by_key table)) (IsPermutation-filter q table (by_key table) (permutes row_key table))
     (rise_kept row_key q (by_key table) (roll_keys_rise db Projects tables.current tables.sound tables.apart.1.1.0)) in
-    ap (map first_cell) (roll_shown [] mine shown whole up) ∙ map-map first_cell (columns (1 ∷ [])) (by_key mine) ∙ ap (λ rows. map row_key (by_key rows)) agree ∙ ap (map row_key) (sym order)
-    ∙ sym (ap (map first_cell) (filter-map (λ c. equals (bytes (column c 1)) k) cells (by_key table)) ∙ map-map first_cell cells (filter q (by_key table)))
+    ap (map first_cell) (roll_shown [] mine shown whole up) ∙ map-map first_cell (columns (1 ∷ [])) (by_key mine)
+    ∙ ap (λ rows. map row_key (by_key rows)) agree ∙ ap (map row_key) (sym order)
+    ∙ sym (ap (map first_cell) (filter-map (λ c. equals (bytes (column c 1)) k) cells (by_key table))
+    ∙ map-map first_cell cells (filter q (by_key table)))
 
 -- a lecturer on the roll has a name
 name_known : (ls : List LecturerRow) (k : Key) → has (map (λ (l : LecturerRow). l.key) ls) k ≡ true
     → is_some (name_of ls k) ≡ true
 name_known [] k h = absurd (cc)
 name_known (l ∷ ls) k h =
-    (elim (equals l.key k) as (λ b. (b || has (map (λ (x : LecturerRow). x.key) ls) k) ≡ true → is_some (option_map (λ (x : LecturerRow). x.name) (cond b (Some l) (find (λ (x : LecturerRow). equals x.key k) ls))) ≡ true) [
+    (elim (equals l.key k) as (λ b. (b || has (map (λ (x : LecturerRow). x.key) ls) k) ≡ true
+    → is_some (option_map (λ (x : LecturerRow). x.name) (cond b (Some l) (find (λ (x : LecturerRow). equals x.key k) ls))) ≡ true) [
       | true ↦ λ e. refl
       | false ↦ λ e. name_known ls k e
     ]) (ap (λ b. b || has (map (λ (x : LecturerRow). x.key) ls) k) (is_sym l.key k) ∙ h)
@@ -50,12 +60,16 @@ none_left_out ls k (p ∷ ps) all =
     let rest : List Listing = offered ls ps in
     let mine : List ProjectRow = filter (λ q. equals q.lecturer k) ps in
     let back = none_left_out ls k ps all.1 in
-    (elim (name_of ls p.lecturer) as (λ o. is_some o ≡ true → own_listed (cons_option (option_map (listing_with p) o) rest) k ≡ map (λ (q : ProjectRow). q.key) (cond (equals p.lecturer k) (p ∷ mine) mine)) [
+    (elim (name_of ls p.lecturer) as (λ o. is_some o ≡ true
+    → own_listed (cons_option (option_map (listing_with p) o) rest) k
+    ≡ map (λ (q : ProjectRow). q.key) (cond (equals p.lecturer k) (p ∷ mine) mine)) [
       | None ↦ λ e. absurd (cc)
-      | Some name ↦ λ e. elim (equals p.lecturer k) as (λ b. map (λ (q : Listing). q.key) (cond b (listing_with p name ∷ filter (λ q. equals q.lecturer k) rest) (filter (λ q. equals q.lecturer k) rest)) ≡ map (λ (q : ProjectRow). q.key) (cond b (p ∷ mine) mine)) [
-        | true ↦ ap (λ ks. p.key ∷ ks) back
-        | false ↦ back
-      ]
+      | Some name ↦ λ e. elim (equals p.lecturer k) as
+          (λ b. map (λ (q : Listing). q.key) (cond b (listing_with p name ∷ filter (λ q. equals q.lecturer k) rest)
+          (filter (λ q. equals q.lecturer k) rest)) ≡ map (λ (q : ProjectRow). q.key) (cond b (p ∷ mine) mine)) [
+            | true ↦ ap (λ ks. p.key ∷ ks) back
+            | false ↦ back
+          ]
     ]) all.0
 
 pub listed_are : (db : Database) → HasTables db → (k : Key)
@@ -69,8 +83,12 @@ listed_are db tables k =
     let known : AllByRecursion (λ r. OnRoll roll (bytes (column r 2))) (by_key table) =
     all_permuted _ table (by_key table) (permutes row_key table) (lecturers_known db tables.own tables.sound tables.apart.1.1.0) in
     let named : (r : Row) → OnRoll roll (bytes (column r 2)) → IsKnown (shown_project (columns (1 ∷ columns_of Projects) r)) =
-    λ r on. name_known ls (bytes (column r 2)) (ap (λ ks. has ks (bytes (column r 2))) (map-map (λ (l : LecturerRow). l.key) shown_lecturer (lecturers_shown db.trees)) ∙ shown_there (columns_of Lecturers) roll (bytes (column r 2)) on) in
+    λ r on. name_known ls (bytes (column r 2))
+    (ap (λ ks. has ks (bytes (column r 2))) (map-map (λ (l : LecturerRow). l.key) shown_lecturer (lecturers_shown db.trees))
+    ∙ shown_there (columns_of Lecturers) roll (bytes (column r 2)) on) in
     let all : AllByRecursion IsKnown (map shown_project rows) =
-    all_map IsKnown shown_project rows (all_map (λ c. IsKnown (shown_project c)) (columns (1 ∷ columns_of Projects)) (by_key table) (all_weaker _ _ named (by_key table) known)) in
-    none_left_out ls k (map shown_project rows) all ∙ ap (map (λ (p : ProjectRow). p.key)) (filter-map (λ (p : ProjectRow). equals p.lecturer k) shown_project rows)
+    all_map IsKnown shown_project rows (all_map (λ c. IsKnown (shown_project c)) (columns (1 ∷ columns_of Projects)) (by_key table)
+    (all_weaker _ _ named (by_key table) known)) in
+    none_left_out ls k (map shown_project rows) all
+    ∙ ap (map (λ (p : ProjectRow). p.key)) (filter-map (λ (p : ProjectRow). equals p.lecturer k) shown_project rows)
     ∙ map-map (λ (p : ProjectRow). p.key) shown_project (filter (λ c. equals (bytes (column c 1)) k) rows)

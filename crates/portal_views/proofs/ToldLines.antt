@@ -17,7 +17,12 @@ use Rattle.portal_views.proofs.Owners.{keys_shown}
 
 -- what the reading of the first round's lines asks is part of it
 pub of_first : (round : Round) (db : Database) → HasStudents round db → HasStudents First db
-of_first round db students = record { tables = students.tables; persons = students.persons; first = students.first; places = students.first }
+of_first round db students = record {
+  tables = students.tables;
+  persons = students.persons;
+  first = students.first;
+  places = students.first;
+}
 
 some_kept : (p : Row → Bool) (rows : List Row) → list_any p rows ≡ true → 1 ≤ length (filter p rows)
 some_kept p rows h =
@@ -36,10 +41,14 @@ module _ (db : Database) (key : Key) where
       → AllByRecursion IsNamedWithPlacement shown
   told_fine round students shown lists =
       let IsGood : Row → Type 0 = λ c. IsNamed c × HasFirstPlace c in
-      let roll : AllByRecursion IsGood (students_shown db.trees) = all_two IsNamed HasFirstPlace IsGood (λ c n p. (n, p)) (students_shown db.trees) students.persons students.first in
-      let rows : AllByRecursion (λ r. IsGood (roll_columns r)) table = all_permuted (λ r. IsGood (roll_columns r)) (by_key table) table (IsPermutation-sym _ _ (permutes row_key table)) (all_unmap IsGood roll_columns (by_key table) roll) in
+      let roll : AllByRecursion IsGood (students_shown db.trees) =
+      all_two IsNamed HasFirstPlace IsGood (λ c n p. (n, p)) (students_shown db.trees) students.persons students.first in
+      let rows : AllByRecursion (λ r. IsGood (roll_columns r)) table =
+      all_permuted (λ r. IsGood (roll_columns r)) (by_key table) table (IsPermutation-sym _ _ (permutes row_key table))
+      (all_unmap IsGood roll_columns (by_key table) roll) in
       all_permuted IsNamedWithPlacement _ shown (permuted _ _ _ table shown lists)
-      (all_map IsNamedWithPlacement (columns (1 ∷ 2 ∷ 4 ∷ [])) (filter (has_text 1 key) table) (all-filter (λ r. IsGood (roll_columns r)) (has_text 1 key) table rows))
+      (all_map IsNamedWithPlacement (columns (1 ∷ 2 ∷ 4 ∷ [])) (filter (has_text 1 key) table)
+      (all-filter (λ r. IsGood (roll_columns r)) (has_text 1 key) table rows))
 
   -- of a student on the roll there is one row
   pub lines_once : HasTables db → IsStudentKey db.trees key → (lines : List ApplicantLine)
@@ -48,14 +57,17 @@ module _ (db : Database) (key : Key) where
       let roll = by_key table in
       let mine : List Row = of_key key table in
       let known : list_any (λ r. equals key (row_key r)) table ≡ true =
-      list_any-IsPermutation (λ r. equals key (row_key r)) table roll (permutes row_key table) ∙ sym (any_map (equals key) row_key roll) ∙ sym (ap (λ ks. has ks key) (keys_shown (2 ∷ 3 ∷ 4 ∷ []) table)) ∙ on in
+      list_any-IsPermutation (λ r. equals key (row_key r)) table roll (permutes row_key table) ∙ sym (any_map (equals key) row_key roll)
+      ∙ sym (ap (λ ks. has ks key) (keys_shown (2 ∷ 3 ∷ 4 ∷ []) table)) ∙ on in
       let there : list_any (has_text 1 key) table ≡ true =
       any_alike (has_text 1 key) (λ r. equals key (row_key r)) table
-      (all_weaker IsStudentRow _ (λ r x. student_test key r x ∙ is_sym (row_key r) key) table (student_rows_formed db tables.own tables.sound tables.apart.1.1.1.0)) ∙ known in
+      (all_weaker IsStudentRow _ (λ r x. student_test key r x ∙ is_sym (row_key r) key) table
+      (student_rows_formed db tables.own tables.sound tables.apart.1.1.1.0)) ∙ known in
       let low = some_kept (has_text 1 key) table there in
       let high = one_row db Students tables.current tables.sound tables.apart.1.1.1.0 key in
       let shown : length shows.rows ≡ length mine =
-      length_permutation (map (columns (1 ∷ 2 ∷ 4 ∷ [])) mine) shows.rows (permuted _ _ _ table shows.rows shows.shown) ∙ length-map mine (columns (1 ∷ 2 ∷ 4 ∷ [])) in
+      length_permutation (map (columns (1 ∷ 2 ∷ 4 ∷ [])) mine) shows.rows (permuted _ _ _ table shows.rows shows.shown)
+      ∙ length-map mine (columns (1 ∷ 2 ∷ 4 ∷ [])) in
       let told : length lines ≡ length shows.rows = ap length shows.decoded ∙ length-map shows.rows placement_line in
       omega (arith, low, high, shown, told)
 
@@ -72,5 +84,9 @@ module _ (db : Database) (key : Key) where
           → (c : Row) × (first_cell c ≡ l.person.key) × HasPlacement round db.trees c
       go None is e = absurd (cc)
       go (Some c) is e =
-          let same : shown_line First db.trees c ≡ l = cc in
-          (c, ap (λ (x : ApplicantLine). x.person.key) same, all_has (HasPlacement round db.trees) (students_shown db.trees) c students.places (has_found (λ c. equals (first_cell c) key) (students_shown db.trees) c is).0)
+          let same : shown_line First db.trees c ≡ l = cc in (
+            c,
+            ap (λ (x : ApplicantLine). x.person.key) same,
+            all_has (HasPlacement round db.trees) (students_shown db.trees) c students.places
+                (has_found (λ c. equals (first_cell c) key) (students_shown db.trees) c is).0,
+          )

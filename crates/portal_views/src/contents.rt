@@ -40,8 +40,8 @@ pub fn contents_in<S: Alter>(
         (λ db fault. Blames fault (HasFineRolls round db.trees))) result conn.old conn.new }
 {
     let rolls = rolls_in(alloc, conn)?;
-    let choices = entries_in(alloc, conn, Lists::choices_of(round), &rolls.students)?;
-    let rankings = entries_in(alloc, conn, Lists::rankings_of(round), &rolls.lecturers)?;
+    let choices = entries_in(alloc, conn, Lists::Choices(round), &rolls.students)?;
+    let rankings = entries_in(alloc, conn, Lists::Rankings(round), &rolls.lecturers)?;
     let pairs = pairs_in(alloc, conn, round, None, &rolls.students)?;
     let parts = parts_of(alloc, &rolls)?;
     Ok(Contents {

@@ -7,7 +7,7 @@ ghost use Rattle.portal_views.specs.inner.Callers.{own_keys_shown, HasOwnKeys, l
 ghost use Rattle.portal_views.specs.inner.Callers.{IsReadableByLecturer};
 ghost use Rattle.portal_views.specs.inner.Lines.{HasTables, HasKeyForm};
 ghost use Rattle.portal_views.specs.inner.Catalogue.{IsCatalogue, own_listed};
-ghost use Rattle.portal_tables.specs.Tables.{ranking_table};
+ghost use Rattle.portal_tables.specs.declared.list_table.Lists.TheVariants.{Rankings};
 ghost use Rattle.portal_tables.specs.inner.Owners.{IsFine, with_list, ranking_shown};
 ghost use Rattle.portal_tables.specs.Reads.{MayRead, GivesOrFails, Blames};
 ghost use Rattle.portal_tables.specs.inner.Shown.{first_cell};
@@ -97,10 +97,10 @@ fn ranking_in<S: Alter>(
 ) -> Result<Option<Vec<Key>>, TableFault>
     ensures { MayRead round S.Store IsDatabase
         (GivesOrFails (λ db o. option_map (λ v. v.items) o ≡ ranking_shown round db.trees row.now)
-        (λ db fault. Blames fault (IsFine (ranking_table round) db.trees row.now)))
+        (λ db fault. Blames fault (IsFine (Rankings round) db.trees row.now)))
         result conn.old conn.new }
 {
-    let entry = entry_in(alloc, conn, Lists::rankings_of(round), row)?;
+    let entry = entry_in(alloc, conn, Lists::Rankings(round), row)?;
     Ok(list_of(entry))
 }
 

@@ -139,7 +139,7 @@ fn waiting_in<S: Alter>(
         ≡ waiting_key round db.trees (map shown_project projects.now) lecturer.now))
         result conn.old conn.new }
 {
-    if has_list_in(conn, Lists::rankings_of(round), lecturer)? {
+    if has_list_in(conn, Lists::Rankings(round), lecturer)? {
         return Ok(None);
     }
     wanted_in(alloc, conn, round, projects, lecturer)

@@ -32,7 +32,7 @@ pub fn student_view<S: Alter>(
         (λ db fault. Blames fault (IsReadable round db.trees row.now))) result conn.old conn.new }
 {
     let student = key_at(alloc, row, 0)?;
-    let choices = list_in(alloc, conn, Lists::choices_of(round), &student)?;
+    let choices = list_in(alloc, conn, Lists::Choices(round), &student)?;
     let place = result_in(alloc, conn, round, phase, row)?;
     Ok(StudentView {
         round,

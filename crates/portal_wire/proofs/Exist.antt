@@ -1,8 +1,8 @@
 -- A stream has requests, an ending and its text, if something stands at the front of each rest.
 use Rattle.portal_wire.proofs.Base.{◌≡◌, ℕ, zero, suc, ◌-◌, ◌<◌, ◌≤◌, Bool, true, false, List, [], ◌∷◌, ◌++◌, length}
 use Rattle.portal_wire.proofs.Base.{drop, refl, sym, ap, ◌∙◌, subst, arith, if◌then◌else◌, Request, RequestContent}
-use Rattle.portal_wire.proofs.Base.{Item, whole}
-use Rattle.portal_wire.proofs.Base.{fault, over, Opens, answer_to, reply_text, request_of, closes_at, Rest, more, shut}
+use Rattle.portal_wire.proofs.Base.{Item, Whole}
+use Rattle.portal_wire.proofs.Base.{Faulty, Over, Opens, answer_to, reply_text, request_of, closes_at, Rest, More, Shut}
 use Rattle.portal_wire.proofs.Base.{Leads, Ends, Last, End, Refused, inl, inr, take, append_assoc, Ok, Err, nat_le}
 use Rattle.portal_wire.proofs.Base.{take-append-drop, length-append, asked_of, after_lines, body_length, fields_of}
 use Rattle.portal_wire.proofs.Base.{bad_length, bad_head, is_head}
@@ -16,27 +16,29 @@ abbrev pub Fronts : List ℕ → Type 0
 Fronts bytes = (front rest : List ℕ) → bytes ≡ front ++ rest → (item : Item) × Opens rest item
 
 abbrev pub Ended : ℕ → List ℕ → Type 0
-Ended left bytes = (rs : List Request) × (end : Last) × (closing : List ℕ) × (rest : Rest) × Leads left bytes rs rest × Ends rest end closing
+Ended left bytes = (rs : List Request) × (end : Last) × (closing : List ℕ) × (rest : Rest) × Leads left bytes rs rest
+    × Ends rest end closing
 
 after_body : (h : RequestHead) (n : ℕ) (rest : List ℕ) (a : RequestContent) (after : List ℕ) (b : Bool)
-    → whole a after ≡ (if b then whole (asked_of h (take n rest)) (drop n rest) else fault bad_length (is_head h.method)) → after ≡ drop n rest
+    → Whole a after ≡ (if b then Whole (asked_of h (take n rest)) (drop n rest) else Faulty bad_length (is_head h.method))
+    → after ≡ drop n rest
 after_body h n rest a after true e = cc
 after_body h n rest a after false e = absurd (cc)
 
 after_head : (h : RequestHead) (r : _) (rest : List ℕ) (a : RequestContent) (after : List ℕ)
-    → whole a after ≡ after_lines h r rest
+    → Whole a after ≡ after_lines h r rest
     → (n : ℕ) × (after ≡ drop n rest)
 after_head h (Err why) rest a after e = absurd (cc)
 after_head h (Ok n) rest a after e = (n, after_body h n rest a after (nat_le n (length rest)) e)
 
 pub not_headless : (a : RequestContent) (after : List ℕ) (b : Bool)
-    → whole a after ≡ (if b then over else fault bad_head false)
+    → Whole a after ≡ (if b then Over else Faulty bad_head false)
     → ⊥
 not_headless a after true e = cc
 not_headless a after false e = cc
 
 -- what is left after a request is a rest of the bytes
-leaves : (bytes : List ℕ) (a : RequestContent) (after : List ℕ) → Opens bytes (whole a after)
+leaves : (bytes : List ℕ) (a : RequestContent) (after : List ℕ) → Opens bytes (Whole a after)
     → (front : List ℕ) × (bytes ≡ front ++ after)
 leaves bytes a after (inl (h, rest, t, e)) =
     let cut : (n : ℕ) × (after ≡ drop n rest) = after_head h (body_length h.minor (fields_of h)) rest a after e in (
@@ -48,26 +50,26 @@ leaves bytes a after (inl (h, rest, t, e)) =
     )
 leaves bytes a after (inr (none, e)) = absurd (not_headless a after _ e)
 
-fronts_after : (bytes : List ℕ) (a : RequestContent) (after : List ℕ) → Opens bytes (whole a after) → Fronts bytes
+fronts_after : (bytes : List ℕ) (a : RequestContent) (after : List ℕ) → Opens bytes (Whole a after) → Fronts bytes
     → Fronts after
 fronts_after bytes a after opens fronts front rest e =
     let cut : (f : List ℕ) × (bytes ≡ f ++ after) = leaves bytes a after opens in
     fronts (cut.0 ++ front) rest (cut.1 ∙ (ap (λ r. cut.0 ++ r) e ∙ sym (append_assoc cut.0 front rest)))
 
 -- a stream that a reply shut ends with no text
-pub shut_ends : (close : Bool) → Ends (shut close) (last_for close) []
+pub shut_ends : (close : Bool) → Ends (Shut close) (last_for close) []
 shut_ends true = refl
 shut_ends false = refl
 
 -- a request that closes, or one after which others come
 first : (left : ℕ) (bytes : List ℕ) (a : RequestContent) (after : List ℕ) (b : Bool) → closes_at left a ≡ b
-    → Opens bytes (whole a after)
+    → Opens bytes (Whole a after)
     → (b ≡ false → Ended (left - 1) after) → Ended left bytes
 first left bytes a after true e opens later = (
   request_of (closes_at left a) a ∷ [],
   last_for a.close,
   [],
-  shut a.close,
+  Shut a.close,
   (a, after, opens, refl, rw e (refl, refl)),
   shut_ends a.close,
 )
@@ -82,11 +84,12 @@ first left bytes a after false e opens later =
     )
 
 step : (left : ℕ) (bytes : List ℕ) (item : Item) → Opens bytes item
-    → ((a : RequestContent) (after : List ℕ) → Opens bytes (whole a after) → closes_at left a ≡ false → Ended (left - 1) after) → Ended left bytes
-step left bytes over opens later = ([], End, [], more bytes, refl, (opens, refl))
-step left bytes (fault why head_only) opens later =
-    ([], Refused why.word, reply_text (answer_to why) head_only true, more bytes, refl, (why, head_only, opens, refl, refl))
-step left bytes (whole a after) opens later = first left bytes a after (closes_at left a) refl opens (λ open'. later a after opens open')
+    → ((a : RequestContent) (after : List ℕ) → Opens bytes (Whole a after) → closes_at left a ≡ false → Ended (left - 1) after)
+    → Ended left bytes
+step left bytes Over opens later = ([], End, [], More bytes, refl, (opens, refl))
+step left bytes (Faulty why head_only) opens later =
+    ([], Refused why.word, reply_text (answer_to why) head_only true, More bytes, refl, (why, head_only, opens, refl, refl))
+step left bytes (Whole a after) opens later = first left bytes a after (closes_at left a) refl opens (λ open'. later a after opens open')
 
 pub ended : (left : ℕ) (bytes : List ℕ) → Fronts bytes → Ended left bytes
 ended zero bytes fronts =
@@ -95,7 +98,8 @@ ended zero bytes fronts =
 ended (suc n) bytes fronts =
     let front : (item : Item) × Opens bytes item = fronts [] bytes refl in
     step (suc n) bytes front.0 front.1
-    (λ a after opens goes. let same : n ≡ suc n - 1 = omega arith in subst (λ k. Ended k after) same (ended n after (fronts_after bytes a after opens fronts)))
+    (λ a after opens goes. let same : n ≡ suc n - 1 = omega arith in
+    subst (λ k. Ended k after) same (ended n after (fronts_after bytes a after opens fronts)))
 
 -- the same of the places in the bytes, and of the end
 pub fronts_of : (bytes : List ℕ) (n : ℕ) → length bytes ≤ n

@@ -72,7 +72,8 @@ no_step token ((x ∷ t, k) ∷ rows) high e =
     let parts = and_parts (list_all (λ c. nat_lt c 256) (x ∷ t)) (is_literal rows) e in
     let tail = and_parts (nat_lt x 256) (list_all (λ c. nat_lt c 256) t) parts.0 in
     let low : x < 256 = ltb-true x 256 tail.0 in
-    ap (λ v. cond v ((t, k) ∷ step token rows) (step token rows)) (ne_eqb x token (λ same. omega (arith, low, high, same))) ∙ no_step token rows high parts.1
+    ap (λ v. cond v ((t, k) ∷ step token rows) (step token rows)) (ne_eqb x token (λ same. omega (arith, low, high, same)))
+    ∙ no_step token rows high parts.1
 
 pub seek_is : {K : Type 0} (path : List ℕ) (rows : RowsOf K) → is_literal rows ≡ true
     → seek 0 rows path ≡ find path rows
@@ -81,8 +82,10 @@ seek_is [] rows e = own_is rows
 seek_is {K} (b ∷ path) rows e =
     let A = seek 0 (step b rows) path in
     let k = (param_step {K = K} [] (b ∷ path)).0 - 1 in
-    ap (λ rs. or_else A (or_else (seek ((param_step rs (b ∷ path)).0 - 1) (param_step rs (b ∷ path)).1 path) (own (step catch_all_token rows)))) (no_step param_token rows (omega arith) e)
-    ∙ (ap (λ rs. or_else A (or_else (seek k (param_step {K = K} [] (b ∷ path)).1 path) (own rs))) (no_step catch_all_token rows (omega arith) e)
+    ap (λ rs. or_else A (or_else (seek ((param_step rs (b ∷ path)).0 - 1) (param_step rs (b ∷ path)).1 path)
+    (own (step catch_all_token rows)))) (no_step param_token rows (omega arith) e)
+    ∙ (ap (λ rs. or_else A (or_else (seek k (param_step {K = K} [] (b ∷ path)).1 path) (own rs)))
+    (no_step catch_all_token rows (omega arith) e)
     ∙ (ap (λ o. or_else A (or_else o None)) (ap (λ r. seek k r path) (after_none {K = K} b path) ∙ seek_none k path)
     ∙ (or_none A ∙ (seek_is path (step b rows) (literal_step b rows e) ∙ find_step b path rows))))
 
@@ -111,7 +114,8 @@ all_text : (ps : List (List ℕ × Route)) → list_all (λ p. list_all (λ b. n
 all_text [] e = refl
 all_text (p ∷ ps) e =
     let parts = and_parts (list_all (λ b. nat_lt b 128) p.0) (list_all (λ q. list_all (λ b. nat_lt b 128) q.0) ps) e in
-    ap (λ v. v && list_all (λ q. is_utf8 q.0) ps) (is_utf8-from_IsUtf8 p.0 (IsUtf8-from_ascii p.0 (below p.0 parts.0))) ∙ all_text ps parts.1
+    ap (λ v. v && list_all (λ q. is_utf8 q.0) ps) (is_utf8-from_IsUtf8 p.0 (IsUtf8-from_ascii p.0 (below p.0 parts.0)))
+    ∙ all_text ps parts.1
   where
     below : (bs : List ℕ) → list_all (λ b. nat_lt b 128) bs ≡ true → (i : ℕ) → slice_index bs i < 128
     below [] f zero = omega arith

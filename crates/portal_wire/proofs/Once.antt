@@ -1,16 +1,16 @@
 -- A stream has one list of requests and one ending.
 use Rattle.portal_wire.proofs.Base.{◌≡◌, ℕ, ◌-◌, Bool, true, false, List, [], ◌∷◌, refl, sym, ap, ◌∙◌, subst, MatchBool}
-use Rattle.portal_wire.proofs.Base.{Request, RequestContent, whole, Opens, answer_to, reply_text, request_of, closes_at}
+use Rattle.portal_wire.proofs.Base.{Request, RequestContent, Whole, Opens, answer_to, reply_text, request_of, closes_at}
 use Rattle.portal_wire.proofs.Base.{Rest}
-use Rattle.portal_wire.proofs.Base.{more, shut, Leads, Ends, Last, End, Refused, Closed, Limit}
+use Rattle.portal_wire.proofs.Base.{More, Shut, Leads, Ends, Last, End, Refused, Closed, Limit}
 use Rattle.portal_frame.proofs.Unique.{Opens-unique}
 
 -- what two accounts of one stream share
 abbrev pub Same : List Request → List Request → Last → Last → List ℕ → List ℕ → Type 0
 Same rs qs end last closing text = (rs ≡ qs) × (end ≡ last) × (closing ≡ text)
 
-ends_more : (bytes : List ℕ) (end last : Last) (closing text : List ℕ) → Ends (more bytes) end closing
-    → Ends (more bytes) last text
+ends_more : (bytes : List ℕ) (end last : Last) (closing text : List ℕ) → Ends (More bytes) end closing
+    → Ends (More bytes) last text
     → (end ≡ last) × (closing ≡ text)
 ends_more bytes End End closing text x y = (refl, x.1 ∙ sym y.1)
 ends_more bytes End (Refused word) closing text x y = let same = Opens-unique bytes _ _ x.0 y.2 in absurd (cc)
@@ -22,8 +22,8 @@ ends_more bytes (Refused word) (Refused other) closing text x y =
     (ap Refused (x.3 ∙ ap (λ r. r.word) why ∙ sym y.3), x.4 ∙ (λ i. reply_text (answer_to (why i)) (head i) true) ∙ sym y.4)
 ends_more bytes _ _ closing text x y = absurd (search)
 
-ends_shut : (close : Bool) (end last : Last) (closing text : List ℕ) → Ends (shut close) end closing
-    → Ends (shut close) last text
+ends_shut : (close : Bool) (end last : Last) (closing text : List ℕ) → Ends (Shut close) end closing
+    → Ends (Shut close) last text
     → (end ≡ last) × (closing ≡ text)
 ends_shut true Closed Closed closing text x y = (refl, x ∙ sym y)
 ends_shut false Limit Limit closing text x y = (refl, x ∙ sym y)
@@ -31,14 +31,14 @@ ends_shut _ _ _ closing text x y = absurd (search)
 
 -- a stream that ends does not begin with a request
 ends_whole : (bytes : List ℕ) (end : Last) (closing : List ℕ) (a : RequestContent) (after : List ℕ)
-    → Ends (more bytes) end closing → Opens bytes (whole a after) → ⊥
+    → Ends (More bytes) end closing → Opens bytes (Whole a after) → ⊥
 ends_whole bytes End closing a after x opens = let same = Opens-unique bytes _ _ x.0 opens in absurd (cc)
 ends_whole bytes (Refused r) closing a after x opens = let same = Opens-unique bytes _ _ x.2 opens in absurd (cc)
 ends_whole bytes _ closing a after x opens = x
 
 -- the rest of two lists, after equal first requests
 rest_same : (b close : Bool) (rs qs : List Request) (rest other : Rest) (end last : Last) (closing text : List ℕ) (P Q : Type 0)
-    → MatchBool b ((rs ≡ []) × (rest ≡ shut close)) P → MatchBool b ((qs ≡ []) × (other ≡ shut close)) Q
+    → MatchBool b ((rs ≡ []) × (rest ≡ Shut close)) P → MatchBool b ((qs ≡ []) × (other ≡ Shut close)) Q
     → Ends rest end closing → Ends other last text
     → (P → Q → Same rs qs end last closing text) → Same rs qs end last closing text
 rest_same true close rs qs rest other end last closing text P Q (e, f) (g, h) x y go =
@@ -59,8 +59,8 @@ once left bytes (r ∷ rs) (q ∷ qs) rest other end last closing text (a, after
     let same = Opens-unique bytes _ _ opens opened in
     let one : a ≡ b = cc in
     let rest_one : after ≡ next = cc in
-    let later' = subst (λ z. MatchBool (closes_at left z) ((qs ≡ []) × (other ≡ shut z.close)) (Leads (left - 1) after qs other)) (sym one)
-    (subst (λ z. MatchBool (closes_at left b) ((qs ≡ []) × (other ≡ shut b.close)) (Leads (left - 1) z qs other)) (sym rest_one) later) in
+    let later' = subst (λ z. MatchBool (closes_at left z) ((qs ≡ []) × (other ≡ Shut z.close)) (Leads (left - 1) after qs other)) (sym one)
+    (subst (λ z. MatchBool (closes_at left b) ((qs ≡ []) × (other ≡ Shut b.close)) (Leads (left - 1) z qs other)) (sym rest_one) later) in
     let s = rest_same (closes_at left a) a.close rs qs rest other end last closing text _ _ then later' x y
     (λ p u. once (left - 1) after rs qs rest other end last closing text p u x y) in
     let head : r ≡ q = is ∙ ap (λ z. request_of (closes_at left z) z) one ∙ sym was in

@@ -6,7 +6,7 @@ use Rattle.portal_rules.specs.Answer.{Answer, Said, Json, Csv, Plain, Unavailabl
 use Rattle.std.specs.Bool.{MatchBool}
 use Rattle.portal_rules.specs.World.{World}
 use Rattle.portal_rules.specs.Run.{Request, Run, end_of}
-use Rattle.portal_frame.specs.Stream.{RequestContent, RefusalContent, whole, fault, over, Opens, is_head}
+use Rattle.portal_frame.specs.Stream.{RequestContent, RefusalContent, Whole, Faulty, Over, Opens, is_head}
 use Rattle.portal_wire.specs.declared.Ending.{Ending}
 use Rattle.portal_wire.specs.declared.Ending.TheVariants as ending
 use Rattle.portal_wire.specs.Wish.{answer_to, wish_of}
@@ -83,15 +83,15 @@ closes_at left a = a.close || nat_le left 1
 
 -- what the first requests leave: bytes, or a closed connection (true if a request asked to close)
 pub data Rest : Type 0 where
-  more : List ℕ → Rest
-  shut : Bool → Rest
+  More : List ℕ → Rest
+  Shut : Bool → Rest
 
 -- the stream begins with these requests, at most `left` of them, and this rest follows
 abbrev pub Leads : ℕ → List ℕ → List Request → Rest → Type 0
-Leads left bytes [] rest = rest ≡ more bytes
+Leads left bytes [] rest = rest ≡ More bytes
 Leads left bytes (r ∷ rs) rest =
-    (a : RequestContent) × (after : List ℕ) × Opens bytes (whole a after) × (r ≡ request_of (closes_at left a) a)
-    × MatchBool (closes_at left a) ((rs ≡ []) × (rest ≡ shut a.close)) (Leads (left - 1) after rs rest)
+    (a : RequestContent) × (after : List ℕ) × Opens bytes (Whole a after) × (r ≡ request_of (closes_at left a) a)
+    × MatchBool (closes_at left a) ((rs ≡ []) × (rest ≡ Shut a.close)) (Leads (left - 1) after rs rest)
 
 -- how the requests of a stream end; `Refused` has the error word, `Limit` is after the most requests
 pub data Last : Type 0 where
@@ -108,12 +108,12 @@ last ending.Limit = Limit
 
 -- how a stream ends after its requests; `closing` is the text of the refusal, if it ends in one
 abbrev pub Ends : Rest → Last → List ℕ → Type 0
-Ends (more bytes) End closing = Opens bytes over × (closing ≡ [])
-Ends (more bytes) (Refused word) closing =
-    (why : RefusalContent) × (head_only : Bool) × Opens bytes (fault why head_only) × (word ≡ why.word)
+Ends (More bytes) End closing = Opens bytes Over × (closing ≡ [])
+Ends (More bytes) (Refused word) closing =
+    (why : RefusalContent) × (head_only : Bool) × Opens bytes (Faulty why head_only) × (word ≡ why.word)
     × (closing ≡ reply_text (answer_to why) head_only true)
-Ends (shut true) Closed closing = closing ≡ []
-Ends (shut false) Limit closing = closing ≡ []
+Ends (Shut true) Closed closing = closing ≡ []
+Ends (Shut false) Limit closing = closing ≡ []
 Ends _ _ closing = ⊥
 
 -- the requests of a whole stream, its ending and its closing text

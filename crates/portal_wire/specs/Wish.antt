@@ -13,14 +13,14 @@ use Rattle.portal_rules.specs.declared.phase.Phase.TheVariants.{Setup, Choosing,
 use Rattle.portal_rules.specs.declared.phase.Round.{Round}
 use Rattle.portal_rules.specs.declared.phase.Round.TheVariants.{First, Second}
 use Rattle.portal_wire.specs.declared.routes.Method.{Method}
-use Rattle.portal_wire.specs.declared.routes.Method.TheVariants.{Get, Head, Put, Post, Other}
+use Rattle.portal_wire.specs.declared.routes.Method.TheVariants.{Get, Put, Post, Other}
 use Rattle.portal_wire.specs.declared.routes.Route.{Route}
 use Rattle.portal_wire.specs.declared.routes.Route.TheVariants as route
 use Rattle.portal_rules.specs.Bodies.{dictionary, count}
 use Rattle.portal_rules.specs.Answer.{Answer, Json}
 use Rattle.portal_rules.specs.Run.{unavailable, Wish, Calls, NoCall}
 use Rattle.portal_frame.specs.Stream.{RefusalContent, plain_refusal, RequestContent}
-use Rattle.portal_rules.specs.Sight.{AbstractCall}
+use Rattle.portal_rules.specs.Calls.{AbstractCall}
 use Rattle.portal_rolls.specs.declared.fault.RollFault.{RollFault}
 use Rattle.portal_rolls.specs.declared.fault.RollFault.TheVariants as fault
 use Rattle.portal_rolls.specs.Lines.{lecturers, projects, students}
@@ -95,10 +95,11 @@ move_in body = option_and_then move_named (json_in body)
 abbrev pub nothing_in : List ℕ → Option (Unit {0})
 nothing_in body = option_and_then empty_object (json_in body)
 
+-- HEAD asks what GET does
 abbrev pub method_of : List ℕ → Method
 method_of method =
     if bytes_eq method (codes "GET") then Get
-    else (if bytes_eq method (codes "HEAD") then Head
+    else (if bytes_eq method (codes "HEAD") then Get
     else (if bytes_eq method (codes "PUT") then Put
     else (if bytes_eq method (codes "POST") then Post
     else Other)))
@@ -198,52 +199,33 @@ abbrev pub by_roll : {X : Type 0} → (List X → AbstractCall) → Result (List
 by_roll ask (Ok rows) = Calls (ask rows)
 by_roll ask (Err fault) = turned_away (roll_refusal fault)
 
--- the path does not take this method
-abbrev pub wrong_method : Route → Wish
-wrong_method at = turned_away (bad_method (allow_of at))
-
--- what GET and HEAD ask
-abbrev pub get_at : Route → Wish
-get_at route.Me = Calls AbstractCall.Me
-get_at route.Catalogue = Calls AbstractCall.Catalogue
-get_at route.Choices = Calls AbstractCall.ShowChoices
-get_at route.Applicants = Calls AbstractCall.Applicants
-get_at route.Ranking = Calls AbstractCall.ShowRanking
-get_at route.Outcome = Calls AbstractCall.Result
-get_at route.Status = Calls AbstractCall.Status
-get_at route.Allocation = Calls AbstractCall.Allocation
-get_at route.AllocationCsv = Calls AbstractCall.AllocationCsv
-get_at route.Report = Calls AbstractCall.Report
-get_at at = wrong_method at
-
--- what PUT asks
-abbrev pub put_at : Route → List ℕ → Wish
-put_at route.Choices body = by_body AbstractCall.SetChoices (listed_in (codes "projects") body)
-put_at route.Ranking body = by_body AbstractCall.SetRanking (listed_in (codes "students") body)
-put_at at body = wrong_method at
-
 abbrev pub to_move : Phase × Option Round → AbstractCall
 to_move m = AbstractCall.Move m.0 m.1
 
--- what POST asks
-abbrev pub post_at : Route → List ℕ → Wish
-post_at route.Lecturers body = by_roll AbstractCall.AddLecturers (lecturers body)
-post_at route.Projects body = by_roll AbstractCall.AddProjects (projects body)
-post_at route.Students body = by_roll AbstractCall.AddStudents (students body)
-post_at route.Phase body = by_body to_move (move_in body)
-post_at route.Fill body = by_body (λ u. AbstractCall.FillRankings) (nothing_in body)
-post_at at body = wrong_method at
-
-abbrev pub wish_at : Method → Route → List ℕ → Wish
-wish_at Get at body = get_at at
-wish_at Head at body = get_at at
-wish_at Put at body = put_at at body
-wish_at Post at body = post_at at body
-wish_at Other at body = wrong_method at
+-- what a method asks of a route
+abbrev pub wish_at : Route → Method → List ℕ → Wish
+wish_at route.Me Get body = Calls AbstractCall.Me
+wish_at route.Catalogue Get body = Calls AbstractCall.Catalogue
+wish_at route.Choices Get body = Calls AbstractCall.ShowChoices
+wish_at route.Choices Put body = by_body AbstractCall.SetChoices (listed_in (codes "projects") body)
+wish_at route.Applicants Get body = Calls AbstractCall.Applicants
+wish_at route.Ranking Get body = Calls AbstractCall.ShowRanking
+wish_at route.Ranking Put body = by_body AbstractCall.SetRanking (listed_in (codes "students") body)
+wish_at route.Outcome Get body = Calls AbstractCall.Result
+wish_at route.Lecturers Post body = by_roll AbstractCall.AddLecturers (lecturers body)
+wish_at route.Projects Post body = by_roll AbstractCall.AddProjects (projects body)
+wish_at route.Students Post body = by_roll AbstractCall.AddStudents (students body)
+wish_at route.Phase Post body = by_body to_move (move_in body)
+wish_at route.Fill Post body = by_body (λ u. AbstractCall.FillRankings) (nothing_in body)
+wish_at route.Status Get body = Calls AbstractCall.Status
+wish_at route.Allocation Get body = Calls AbstractCall.Allocation
+wish_at route.AllocationCsv Get body = Calls AbstractCall.AllocationCsv
+wish_at route.Report Get body = Calls AbstractCall.Report
+wish_at at method body = turned_away (bad_method (allow_of at))
 
 abbrev pub wish_from : Option Route → RequestContent → Wish
 wish_from None a = turned_away no_route
-wish_from (Some at) a = wish_at (method_of a.method) at a.body
+wish_from (Some at) a = wish_at at (method_of a.method) a.body
 
 -- what a request wants: a call, or the refusal of its route, method or body
 abbrev pub wish_of : RequestContent → Wish

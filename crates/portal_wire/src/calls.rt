@@ -4,9 +4,9 @@ ghost use Rattle.std.specs.Prelude.{◌≡◌, ◌⊎◌, IfOk, IfErr};
 ghost use Rattle.portal_rules.specs.Meaning.{call_model};
 ghost use Rattle.portal_rules.specs.Run.{HasForm, Calls};
 ghost use Rattle.portal_frame.specs.Stream.{request_content, refusal_content};
-ghost use Rattle.portal_rules.specs.Sight.{AbstractCall};
+ghost use Rattle.portal_rules.specs.Calls.{AbstractCall};
 ghost use Rattle.portal_wire.specs.declared.calls.CallFault.TheVariants as why;
-ghost use Rattle.portal_wire.specs.Wish.{no_memory, turned_away, get_at, put_at, post_at, to_move};
+ghost use Rattle.portal_wire.specs.Wish.{no_memory, turned_away, to_move};
 ghost use Rattle.portal_wire.specs.Wish.{wish_at, wish_of, by_body, move_in, nothing_in};
 ghost use Rattle.portal_wire.specs.inner.Calls.{IsCallOf, refusal_for, of_body, of_roll};
 
@@ -78,38 +78,6 @@ impl From<RollFault> for CallFault {
     }
 }
 
-/// Returns the call of GET or HEAD at a route.
-fn get_call(route: Route) -> Result<Call, CallFault>
-    ensures wish { IsCallOf (get_at route) result }
-    ensures form { IfOk result (λ call. HasForm (call_model call)) }
-{
-    match route {
-        Route::Me => Ok(Call::Me),
-        Route::Catalogue => Ok(Call::Catalogue),
-        Route::Choices => Ok(Call::ShowChoices),
-        Route::Applicants => Ok(Call::Applicants),
-        Route::Ranking => Ok(Call::ShowRanking),
-        Route::Outcome => Ok(Call::Result),
-        Route::Status => Ok(Call::Status),
-        Route::Allocation => Ok(Call::Allocation),
-        Route::AllocationCsv => Ok(Call::AllocationCsv),
-        Route::Report => Ok(Call::Report),
-        _ => Err(CallFault::BadMethod(route)),
-    }
-}
-
-/// Returns the call of PUT at a route.
-fn put_call(alloc: Global, route: Route, body: &[u8]) -> Result<Call, CallFault>
-    ensures wish { IsCallOf (put_at route body.now) result }
-    ensures form { IfOk result (λ call. HasForm (call_model call)) }
-{
-    match route {
-        Route::Choices => Ok(Call::SetChoices(read_list(alloc, body, "projects")?)),
-        Route::Ranking => Ok(Call::SetRanking(read_list(alloc, body, "students")?)),
-        _ => Err(CallFault::BadMethod(route)),
-    }
-}
-
 /// Returns the call that moves to the phase in a request's body. The body may also name the round,
 /// which is otherwise the current one.
 fn move_call(alloc: Global, body: &[u8]) -> Result<Call, CallFault>
@@ -130,31 +98,30 @@ fn fill_call(alloc: Global, body: &[u8]) -> Result<Call, CallFault>
     Ok(Call::FillRankings)
 }
 
-/// Returns the call of POST at a route.
-fn post_call(alloc: Global, route: Route, body: &[u8]) -> Result<Call, CallFault>
-    ensures wish { IsCallOf (post_at route body.now) result }
-    ensures form { IfOk result (λ call. HasForm (call_model call)) }
-{
-    match route {
-        Route::Lecturers => Ok(Call::AddLecturers(read_lecturers(alloc, body)?)),
-        Route::Projects => Ok(Call::AddProjects(read_projects(alloc, body)?)),
-        Route::Students => Ok(Call::AddStudents(read_students(alloc, body)?)),
-        Route::Phase => move_call(alloc, body),
-        Route::Fill => fill_call(alloc, body),
-        _ => Err(CallFault::BadMethod(route)),
-    }
-}
-
 /// Returns the call of a method at a route.
-fn call_at(alloc: Global, method: Method, route: Route, body: &[u8]) -> Result<Call, CallFault>
-    ensures wish { IsCallOf (wish_at method route body.now) result }
+fn call_at(alloc: Global, route: Route, method: Method, body: &[u8]) -> Result<Call, CallFault>
+    ensures wish { IsCallOf (wish_at route method body.now) result }
     ensures form { IfOk result (λ call. HasForm (call_model call)) }
 {
-    match method {
-        Method::Get | Method::Head => get_call(route),
-        Method::Put => put_call(alloc, route, body),
-        Method::Post => post_call(alloc, route, body),
-        Method::Other => Err(CallFault::BadMethod(route)),
+    match (route, method) {
+        (Route::Me, Method::Get) => Ok(Call::Me),
+        (Route::Catalogue, Method::Get) => Ok(Call::Catalogue),
+        (Route::Choices, Method::Get) => Ok(Call::ShowChoices),
+        (Route::Choices, Method::Put) => Ok(Call::SetChoices(read_list(alloc, body, "projects")?)),
+        (Route::Applicants, Method::Get) => Ok(Call::Applicants),
+        (Route::Ranking, Method::Get) => Ok(Call::ShowRanking),
+        (Route::Ranking, Method::Put) => Ok(Call::SetRanking(read_list(alloc, body, "students")?)),
+        (Route::Outcome, Method::Get) => Ok(Call::Result),
+        (Route::Lecturers, Method::Post) => Ok(Call::AddLecturers(read_lecturers(alloc, body)?)),
+        (Route::Projects, Method::Post) => Ok(Call::AddProjects(read_projects(alloc, body)?)),
+        (Route::Students, Method::Post) => Ok(Call::AddStudents(read_students(alloc, body)?)),
+        (Route::Phase, Method::Post) => move_call(alloc, body),
+        (Route::Fill, Method::Post) => fill_call(alloc, body),
+        (Route::Status, Method::Get) => Ok(Call::Status),
+        (Route::Allocation, Method::Get) => Ok(Call::Allocation),
+        (Route::AllocationCsv, Method::Get) => Ok(Call::AllocationCsv),
+        (Route::Report, Method::Get) => Ok(Call::Report),
+        _ => Err(CallFault::BadMethod(route)),
     }
 }
 
@@ -167,7 +134,7 @@ fn routed_call(alloc: Global, request: &Request) -> Result<Call, CallFault>
         return Err(CallFault::NoRoute);
     };
     let method = method_in(alloc, request.method.as_slice())?;
-    call_at(alloc, method, route, request.body.as_slice())
+    call_at(alloc, route, method, request.body.as_slice())
 }
 
 /// Refuses a request that cannot be turned into a call. Returns the reason, not yet a reply.

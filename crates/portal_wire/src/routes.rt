@@ -104,8 +104,8 @@ pub(crate) fn allow_at(route: Route) -> &'static str
 /// A method that some route allows, or `Other`.
 #[derive(Clone, Copy, Debug, PartialEq, Eq, Drop)]
 pub(crate) enum Method {
+    /// GET or HEAD.
     Get,
-    Head,
     Put,
     Post,
     Other,
@@ -116,8 +116,7 @@ fn method_named(method: &str) -> Method
     ensures { result ≡ method_of method.now }
 {
     match method {
-        "GET" => Method::Get,
-        "HEAD" => Method::Head,
+        "GET" | "HEAD" => Method::Get,
         "PUT" => Method::Put,
         "POST" => Method::Post,
         _ => Method::Other,

@@ -49,18 +49,25 @@ pub worse_with : (i : Spa) (m : List (Option ℕ)) (l s depth : ℕ) (g : Group)
 worse_with i m l s depth g lawful fits group is = search (rules, worse_from_depth, listed_with, depth_from_worse)
 
 -- the groups of the first n students, each on its own list
-pub record AreGroupsBefore (lists : ℕ → List ℕ) (IsIn : ℕ → ℕ → Type 0) (count : ℕ → ℕ → ℕ) (rows n : ℕ) (groups : List Group) : Type 0 where
+pub record AreGroupsBefore (lists : ℕ → List ℕ) (IsIn : ℕ → ℕ → Type 0) (count : ℕ → ℕ → ℕ) (rows n : ℕ)
+    (groups : List Group) : Type 0 where
   pub size : length groups ≡ rows
   pub each : (p : ℕ) (d : Group) → p < length groups
       → IsGroup (lists p) (λ t. (t < n) × IsIn p t) (count p n) (get_or groups p d)
 
-module _ (lists : ℕ → List ℕ) (IsIn : ℕ → ℕ → Type 0) (count : ℕ → ℕ → ℕ) (rows n : ℕ) (groups : List Group) (so_far : AreGroupsBefore lists IsIn count rows n groups) where
+module _ (lists : ℕ → List ℕ) (IsIn : ℕ → ℕ → Type 0) (count : ℕ → ℕ → ℕ) (rows n : ℕ) (groups : List Group)
+    (so_far : AreGroupsBefore lists IsIn count rows n groups) where
   -- a group that the student n is not in
   still : (p : ℕ) (d : Group) → (IsIn p n → ⊥) × (count p (n + 1) ≡ count p n) → p < length groups
       → IsGroup (lists p) (λ t. (t < n + 1) × IsIn p t) (count p (n + 1)) (get_or groups p d)
   still p d off k =
-      group_same (lists p) (λ t. (t < n) × IsIn p t) (λ t. (t < n + 1) × IsIn p t) (count p n) (count p (n + 1)) (get_or groups p d) (λ t there. (omega (arith, there.0), there.1))
-      (λ t there. elim (cases_lt t n) [ inl before ↦ (before, there.1) | inr past ↦ let here : t ≡ n = omega (arith, there.0) in absurd (off.0 (rw here at there.1)) ]) off.1 (so_far.each p d k)
+      group_same (lists p) (λ t. (t < n) × IsIn p t) (λ t. (t < n + 1) × IsIn p t) (count p n) (count p (n + 1)) (get_or groups p d)
+      (λ t there. (omega (arith, there.0), there.1))
+      (λ t there. elim (cases_lt t n) [
+        | inl before ↦ (before, there.1)
+        | inr past ↦ let here : t ≡ n = omega (arith, there.0) in
+            absurd (off.0 (rw here at there.1))
+      ]) off.1 (so_far.each p d k)
 
   groups_skip : ((p : ℕ) → (IsIn p n → ⊥) × (count p (n + 1) ≡ count p n))
       → AreGroupsBefore lists IsIn count rows (n + 1) groups
@@ -75,16 +82,20 @@ module _ (lists : ℕ → List ℕ) (IsIn : ℕ → ℕ → Type 0) (count : ℕ
     size = length-set groups p new ∙ so_far.size;
     each = λ q d k. elim (cases_eq q p) [
       | inl same ↦
-          let mine : get_or (set groups p new) q d ≡ new = ap (λ r. get_or (set groups p new) r d) same ∙ get_or-set_same groups p new d in_range in
-          rw (mine, same) (group_joined (lists p) (λ t. (t < n) × IsIn p t) (λ t. (t < n + 1) × IsIn p t) (count p n) (count p (n + 1)) n depth old new (λ t there. (omega (arith, there.0), there.1))
-          (λ t there. elim (cases_lt t n) [ inl before ↦ inl (before, there.1) | inr past ↦ inr (omega (arith, there.0)) ]) (omega arith, at) more deep count_is depth_is
+          let mine : get_or (set groups p new) q d ≡ new = ap (λ r. get_or (set groups p new) r d) same
+          ∙ get_or-set_same groups p new d in_range in
+          rw (mine, same) (group_joined (lists p) (λ t. (t < n) × IsIn p t) (λ t. (t < n + 1) × IsIn p t) (count p n)
+          (count p (n + 1)) n depth old new (λ t there. (omega (arith, there.0), there.1))
+          (λ t there. elim (cases_lt t n) [ inl before ↦ inl (before, there.1) | inr past ↦ inr (omega (arith, there.0)) ])
+          (omega arith, at) more deep count_is depth_is
           (let group = so_far.each p old in_range in rw (sym read) at group))
       | inr other ↦ rw (get_or-set_other groups p q new d other) (still q d (others q other) (omega (arith, length-set groups p new)))
     ];
   }
 
 abbrev pub AreProjectGroupsBefore : Spa → List (Option ℕ) → ℕ → List Group → Type 0
-AreProjectGroupsBefore i m = AreGroupsBefore (λ p. ranking_of i (lecturer_of i p)) (λ p t. project_of m t ≡ Some p) (λ p k. at_project (take k m) p) (length i.lecturers)
+AreProjectGroupsBefore i m = AreGroupsBefore (λ p. ranking_of i (lecturer_of i p)) (λ p t. project_of m t ≡ Some p)
+    (λ p k. at_project (take k m) p) (length i.lecturers)
 
 abbrev pub AreLecturerGroupsBefore : Spa → List (Option ℕ) → ℕ → List Group → Type 0
 AreLecturerGroupsBefore i m = AreGroupsBefore (ranking_of i) (IsWith i m) (λ l k. at_lecturer i (take k m) l) (length i.rankings)
@@ -105,11 +116,15 @@ module _ (i : Spa) (m : List (Option ℕ)) where
 
   pub project_groups_skip : (n : ℕ) (groups : List Group) → n < length m → project_of m n ≡ None
       → AreProjectGroupsBefore i m n groups → AreProjectGroupsBefore i m (n + 1) groups
-  project_groups_skip n groups h free so_far = groups_skip (λ p. ranking_of i (lecturer_of i p)) (λ p t. project_of m t ≡ Some p) (λ p k. at_project (take k m) p) (length i.lecturers) n groups so_far (λ p. not_at n p h (λ e. absurd (cc)))
+  project_groups_skip n groups h free so_far =
+      groups_skip (λ p. ranking_of i (lecturer_of i p)) (λ p t. project_of m t ≡ Some p) (λ p k. at_project (take k m) p)
+      (length i.lecturers) n groups so_far (λ p. not_at n p h (λ e. absurd (cc)))
 
   pub lecturer_groups_skip : (n : ℕ) (groups : List Group) → n < length m → project_of m n ≡ None
       → AreLecturerGroupsBefore i m n groups → AreLecturerGroupsBefore i m (n + 1) groups
-  lecturer_groups_skip n groups h free so_far = groups_skip (ranking_of i) (IsWith i m) (λ l k. at_lecturer i (take k m) l) (length i.rankings) n groups so_far (λ l. not_with n l h (λ (q, e, _). absurd (cc)))
+  lecturer_groups_skip n groups h free so_far =
+      groups_skip (ranking_of i) (IsWith i m) (λ l k. at_lecturer i (take k m) l) (length i.rankings) n groups so_far
+      (λ l. not_with n l h (λ (q, e, _). absurd (cc)))
 
   pub project_groups_more : (n p depth : ℕ) (groups : List Group) (old new : Group) → n < length m
       → project_of m n ≡ Some p → p < length groups → old ≡ get_or groups p old
@@ -117,12 +132,17 @@ module _ (i : Spa) (m : List (Option ℕ)) where
       → new.depth ≡ max old.depth depth
       → AreProjectGroupsBefore i m n groups → AreProjectGroupsBefore i m (n + 1) (set groups p new)
   project_groups_more n p depth groups old new h at in_range read deep count_is depth_is so_far =
-      groups_more (λ p. ranking_of i (lecturer_of i p)) (λ p t. project_of m t ≡ Some p) (λ p k. at_project (take k m) p) (length i.lecturers) n groups so_far p depth old new at (count_by_more_yes (is_project p) m n None h (ap (is_project p) at ∙ eq-eqb p p refl)) (λ q other. not_at n q h (λ e. other (same_Some _ _ (sym e ∙ at)))) in_range read deep count_is depth_is
+      groups_more (λ p. ranking_of i (lecturer_of i p)) (λ p t. project_of m t ≡ Some p) (λ p k. at_project (take k m) p)
+      (length i.lecturers) n groups so_far p depth old new at
+      (count_by_more_yes (is_project p) m n None h (ap (is_project p) at ∙ eq-eqb p p refl))
+      (λ q other. not_at n q h (λ e. other (same_Some _ _ (sym e ∙ at)))) in_range read deep count_is depth_is
 
   pub lecturer_groups_more : (n p l depth : ℕ) (groups : List Group) (old new : Group) → n < length m
       → project_of m n ≡ Some p → l ≡ lecturer_of i p → l < length groups → old ≡ get_or groups l old
       → depth ≡ place (ranking_of i l) n + 1 → new.count ≡ old.count + 1 → new.depth ≡ max old.depth depth
       → AreLecturerGroupsBefore i m n groups → AreLecturerGroupsBefore i m (n + 1) (set groups l new)
   lecturer_groups_more n p l depth groups old new h at is in_range read deep count_is depth_is so_far =
-      groups_more (ranking_of i) (IsWith i m) (λ l k. at_lecturer i (take k m) l) (length i.rankings) n groups so_far l depth old new (p, at, sym is) (count_by_more_yes (is_lecturer i l) m n None h (ap (is_lecturer i l) at ∙ eq-eqb (lecturer_of i p) l (sym is)))
-      (λ q other. not_with n q h (λ (r, e, f). other (sym f ∙ ap (lecturer_of i) (same_Some _ _ (sym e ∙ at)) ∙ sym is))) in_range read deep count_is depth_is
+      groups_more (ranking_of i) (IsWith i m) (λ l k. at_lecturer i (take k m) l) (length i.rankings) n groups so_far l depth old new
+      (p, at, sym is) (count_by_more_yes (is_lecturer i l) m n None h (ap (is_lecturer i l) at ∙ eq-eqb (lecturer_of i p) l (sym is)))
+      (λ q other. not_with n q h (λ (r, e, f). other (sym f ∙ ap (lecturer_of i) (same_Some _ _ (sym e ∙ at)) ∙ sym is))) in_range read deep
+      count_is depth_is

@@ -22,20 +22,30 @@ blocks_jump i m blocks s n p h apart listed = record {
   sound = listed.sound;
   complete = λ t q x before b. listed.complete t q x (below t q x before b) b;
   sorted = listed.sorted;
-  passed = All-weaker (λ b. IsPassed s n b.student b.project) (λ b. IsPassed s p b.student b.project) (λ b. further s n p b.student b.project h) blocks listed.passed;
+  passed = All-weaker (λ b. IsPassed s n b.student b.project) (λ b. IsPassed s p b.student b.project)
+      (λ b. further s n p b.student b.project h) blocks listed.passed;
 } where
   below : (t q : ℕ) (x : Letter) → IsPassed s p t q → Blocks i m t q x → IsPassed s n t q
   below t q x (inl k) b = inl k
-  below t q x (inr k) b = elim (apart q (rw k.0 at (blocks_wants i m t q x b))) [ inl less ↦ inr (k.0, less) | inr past ↦ absurd (omega (arith, k.1)) ]
+  below t q x (inr k) b = elim (apart q (rw k.0 at (blocks_wants i m t q x b))) [
+    | inl less ↦ inr (k.0, less)
+    | inr past ↦ absurd
+        (omega (arith, k.1))
+  ]
 
 -- the pair at p does not block
 pub blocks_skip : (i : Spa) (m : List (Option ℕ)) (blocks : List Block) (s p : ℕ)
     → ((x : Letter) → Blocks i m s p x → ⊥) → AreBlocksBefore i m s p blocks → AreBlocksBefore i m s (p + 1) blocks
 blocks_skip i m blocks s p none listed = record {
   sound = listed.sound;
-  complete = λ t q x before b. elim (last_or_before s p t q before) [ inl h ↦ listed.complete t q x h b | inr h ↦ absurd (none x (rw (h.0, h.1) at b)) ];
+  complete = λ t q x before b. elim (last_or_before s p t q before) [
+    | inl h ↦ listed.complete t q x h b
+    | inr h ↦ absurd
+        (none x (rw (h.0, h.1) at b))
+  ];
   sorted = listed.sorted;
-  passed = All-weaker (λ b. IsPassed s p b.student b.project) (λ b. IsPassed s (p + 1) b.student b.project) (λ b. further s p (p + 1) b.student b.project (omega arith)) blocks listed.passed;
+  passed = All-weaker (λ b. IsPassed s p b.student b.project) (λ b. IsPassed s (p + 1) b.student b.project)
+      (λ b. further s p (p + 1) b.student b.project (omega arith)) blocks listed.passed;
 }
 
 -- it blocks, and is listed
@@ -54,7 +64,8 @@ blocks_push i m blocks s p x block listed =
       ];
       sorted = all_pairs_push IsEarlier blocks new listed.sorted (λ k d h. listed.passed k d h);
       passed = All-push (λ b. IsPassed s (p + 1) b.student b.project) blocks new
-          (All-weaker (λ b. IsPassed s p b.student b.project) (λ b. IsPassed s (p + 1) b.student b.project) (λ b. further s p (p + 1) b.student b.project (omega arith)) blocks listed.passed)
+          (All-weaker (λ b. IsPassed s p b.student b.project) (λ b. IsPassed s (p + 1) b.student b.project)
+          (λ b. further s p (p + 1) b.student b.project (omega arith)) blocks listed.passed)
           (inr (refl, omega arith));
     }
 
@@ -65,10 +76,15 @@ blocks_row i m blocks s n below listed = record {
   sound = listed.sound;
   complete = λ t q x before b. listed.complete t q x (row t q x before b) b;
   sorted = listed.sorted;
-  passed = All-weaker (λ b. IsPassed s n b.student b.project) (λ b. IsPassed (s + 1) 0 b.student b.project) (λ b h. elim h [ inl k ↦ inl (omega arith) | inr k ↦ inl (omega arith) ]) blocks listed.passed;
+  passed = All-weaker (λ b. IsPassed s n b.student b.project) (λ b. IsPassed (s + 1) 0 b.student b.project)
+      (λ b h. elim h [ inl k ↦ inl (omega arith) | inr k ↦ inl (omega arith) ]) blocks listed.passed;
 } where
   row : (t q : ℕ) (x : Letter) → IsPassed (s + 1) 0 t q → Blocks i m t q x → IsPassed s n t q
-  row t q x (inl h) b = elim (cases_lt t s) [ inl k ↦ inl k | inr k ↦ let same : t ≡ s = omega arith in inr (same, below q (rw same at (blocks_wants i m t q x b))) ]
+  row t q x (inl h) b = elim (cases_lt t s) [
+    | inl k ↦ inl k
+    | inr k ↦ let same : t ≡ s = omega arith in
+        inr (same, below q (rw same at (blocks_wants i m t q x b)))
+  ]
   row t q x (inr h) b = absurd (omega arith)
 
 -- no case, by what a search for one answers

@@ -38,7 +38,8 @@ pub wanted_front : (i : Spa) (m : List (Option ℕ)) (s own p : ℕ) → project
     → Contains (take (place (choices_of i s) own) (choices_of i s)) p ↔ Wants i m s p
 wanted_front i m s own p has on =
     let front = front_holds (choices_of i s) (place (choices_of i s) own) p (place-le-length (choices_of i s) own) in (
-      λ stands. let before : place (choices_of i s) p < place (choices_of i s) own = front.0 stands in (omega (arith, place-le-length (choices_of i s) own), rw has (before, on)),
+      λ stands. let before : place (choices_of i s) p < place (choices_of i s) own = front.0 stands in
+          (omega (arith, place-le-length (choices_of i s) own), rw has (before, on)),
       λ w. front.1 ((by_own (project_of m s) has w.1).0),
     )
   where
@@ -61,7 +62,12 @@ place_none xs x r is none = by_test (ltb (position_or_len (λ y. eqb y x) xs) (l
     by_test : (b : Bool) → ltb (position_or_len (λ y. eqb y x) xs) (length xs) ≡ b
         → None ≡ cond b (Some (position_or_len (λ y. eqb y x) xs)) None → length xs ≡ place xs x
     by_test true t e = absurd (cc)
-    by_test false t e = omega (arith, ltb-false (position_or_len (λ y. eqb y x) xs) (length xs) t, place-position xs x, place-le-length xs x)
+    by_test false t e = omega (
+      arith,
+      ltb-false (position_or_len (λ y. eqb y x) xs) (length xs) t,
+      place-position xs x,
+      place-le-length xs x,
+    )
 
 -- what passes a test and is on a list is kept by a filter
 in_filter : (test : ℕ → Bool) (xs : List ℕ) (q : ℕ) → Contains xs q → test q ≡ true → Contains (filter test xs) q

@@ -50,11 +50,13 @@ module _ (i : Spa) (n x : List (Option ℕ)) (adds : AddsTo i n x) where
       true_from_ne_false (f (project_of n s)) (λ e. omega (arith, level, count_by-lt f n x s (sym adds.students) (counted f off) low e on))
 
   was_at : (u z : ℕ) → at_project x u ≤ at_project n u → project_of x z ≡ Some u → project_of n z ≡ Some u
-  was_at u z level at = project_from_test u (project_of n z) (nobody_new (is_project u) refl level z (student_in_range i x z u at) (is_project-at u (project_of x z) at))
+  was_at u z level at = project_from_test u (project_of n z)
+      (nobody_new (is_project u) refl level z (student_in_range i x z u at) (is_project-at u (project_of x z) at))
 
   was_with : (l z q : ℕ) → at_lecturer i x l ≤ at_lecturer i n l → project_of x z ≡ Some q → lecturer_of i q ≡ l
       → project_of n z ≡ Some q
-  was_with l z q level at own = by_own (project_of n z) refl (nobody_new (is_lecturer i l) refl level z (student_in_range i x z q at) (ap (is_lecturer i l) at ∙ eq-eqb (lecturer_of i q) l own))
+  was_with l z q level at own = by_own (project_of n z) refl
+      (nobody_new (is_lecturer i l) refl level z (student_in_range i x z q at) (ap (is_lecturer i l) at ∙ eq-eqb (lecturer_of i q) l own))
     where
       by_own : (o : Option ℕ) → project_of n z ≡ o → is_lecturer i l o ≡ true → o ≡ Some q
       by_own None e on = absurd (cc)
@@ -65,9 +67,11 @@ module _ (i : Spa) (n x : List (Option ℕ)) (adds : AddsTo i n x) where
       → at_lecturer i n (lecturer_of i u) < limit_of i (lecturer_of i u)
   room_before u more =
       let z = one_there i x n u adds.students more in
-      let on : is_lecturer i (lecturer_of i u) (project_of x z.0) ≡ true = ap (is_lecturer i (lecturer_of i u)) z.1 ∙ eq-eqb (lecturer_of i u) (lecturer_of i u) refl in
+      let on : is_lecturer i (lecturer_of i u) (project_of x z.0) ≡ true = ap (is_lecturer i (lecturer_of i u)) z.1
+      ∙ eq-eqb (lecturer_of i u) (lecturer_of i u) refl in
       let new : count_by (is_lecturer i (lecturer_of i u)) n + 1 ≤ count_by (is_lecturer i (lecturer_of i u)) x
-      = count_by-lt (is_lecturer i (lecturer_of i u)) n x z.0 (sym adds.students) (counted (is_lecturer i (lecturer_of i u)) refl) (student_in_range i x z.0 u z.1) (off z.0 z.1 z.2 (project_of n z.0) refl) on in
+      = count_by-lt (is_lecturer i (lecturer_of i u)) n x z.0 (sym adds.students) (counted (is_lecturer i (lecturer_of i u)) refl)
+      (student_in_range i x z.0 u z.1) (off z.0 z.1 z.2 (project_of n z.0) refl) on in
       omega (arith, new, adds.lecturers (lecturer_of i u))
     where
       off : (z : ℕ) → project_of x z ≡ Some u → (project_of n z ≡ Some u → ⊥) → (o : Option ℕ) → project_of n z ≡ o
@@ -76,18 +80,24 @@ module _ (i : Spa) (n x : List (Option ℕ)) (adds : AddsTo i n x) where
       off z at not_at (Some q) e = absurd (not_at (e ∙ sym (adds.keeps z q e) ∙ at))
 
 -- WHO IS WHERE n HAS THEM blocks x in no more ways than n
-module _ (i : Spa) (n x : List (Option ℕ)) (adds : AddsTo i n x) (t u : ℕ) (stays : project_of x t ≡ project_of n t) (unblocked : (k : Letter) → Blocks i n t u k → ⊥) where
+module _ (i : Spa) (n x : List (Option ℕ)) (adds : AddsTo i n x) (t u : ℕ) (stays : project_of x t ≡ project_of n t)
+    (unblocked : (k : Letter) → Blocks i n t u k → ⊥) where
   wants : Wants i x t u → Wants i n t u
   wants w = (w.0, subst (Improves i t u) stays w.1)
 
   pub blocks_no_more : (k : Letter) → Blocks i x t u k → ⊥
-  blocks_no_more A b = unblocked A (wants b.0, omega (arith, b.1, no_fewer i n x adds (is_project u) refl), omega (arith, b.2, no_fewer i n x adds (is_lecturer i (lecturer_of i u)) refl))
+  blocks_no_more A b = unblocked A (
+    wants b.0,
+    omega (arith, b.1, no_fewer i n x adds (is_project u) refl),
+    omega (arith, b.2, no_fewer i n x adds (is_lecturer i (lecturer_of i u)) refl),
+  )
   blocks_no_more B b =
       let free : at_project n u < capacity_of i u = omega (arith, b.1, no_fewer i n x adds (is_project u) refl) in
       elim (cases_lt (at_lecturer i n (lecturer_of i u)) (limit_of i (lecturer_of i u))) [
         | inl room ↦ unblocked A (wants b.0, free, room)
         | inr full ↦
-            let few : at_lecturer i n (lecturer_of i u) ≤ at_lecturer i x (lecturer_of i u) = no_fewer i n x adds (is_lecturer i (lecturer_of i u)) refl in
+            let few : at_lecturer i n (lecturer_of i u) ≤ at_lecturer i x (lecturer_of i u) =
+            no_fewer i n x adds (is_lecturer i (lecturer_of i u)) refl in
             let level : at_lecturer i x (lecturer_of i u) ≤ at_lecturer i n (lecturer_of i u) = omega (arith, b.2, full) in
             unblocked B (wants b.0, free, omega (arith, few, level, b.2), still level b.3)
       ]
@@ -96,7 +106,15 @@ module _ (i : Spa) (n x : List (Option ℕ)) (adds : AddsTo i n x) (t u : ℕ) (
           → IsWith i x (lecturer_of i u) t ⊎ SomeWorseWith i x (lecturer_of i u) t
           → IsWith i n (lecturer_of i u) t ⊎ SomeWorseWith i n (lecturer_of i u) t
       still level (inl own) = inl (own.0, sym stays ∙ own.1, own.2)
-      still level (inr worse) = inr (worse.0, (worse.1.0, was_with i n x adds (lecturer_of i u) worse.0 worse.1.0 level worse.1.1 worse.1.2, worse.1.2), worse.2)
+      still level (inr worse) = inr (
+        worse.0,
+        (
+          worse.1.0,
+          was_with i n x adds (lecturer_of i u) worse.0 worse.1.0 level worse.1.1 worse.1.2,
+          worse.1.2,
+        ),
+        worse.2,
+      )
   blocks_no_more C b = elim (cases_lt (at_project n u) (capacity_of i u)) [
     | inl room ↦ unblocked A (wants b.0, room, room_before i n x adds u (omega (arith, room, b.1)))
     | inr full ↦
@@ -121,7 +139,8 @@ adds_joined i n x r adds = record {
   either s p e false = e
 
   fewer : (f : Option ℕ → Bool) → f None ≡ false → count_by f (joined r x n) ≤ count_by f x
-  fewer f off = count_by-le f (joined r x n) x (long ∙ sym adds.students) (λ s on. by_test s (r s) (subst (λ o. f o ≡ true) (joined_at r x n s adds.students) on))
+  fewer f off = count_by-le f (joined r x n) x (long ∙ sym adds.students)
+      (λ s on. by_test s (r s) (subst (λ o. f o ≡ true) (joined_at r x n s adds.students) on))
     where
       by_test : (s : ℕ) (b : Bool) → f (cond b (project_of x s) (project_of n s)) ≡ true → f (project_of x s) ≡ true
       by_test s true on = on

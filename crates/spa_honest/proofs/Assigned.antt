@@ -21,7 +21,8 @@ one_lecturer : (i : Spa) (n : ℕ) (o : Option ℕ) → ((q : ℕ) → o ≡ Som
     → sum_below (λ l. one_if (is_lecturer i l o)) n ≡ one_if (has_one o)
 one_lecturer i n None h = sum_below-zero (λ l. 0) n (λ k _. refl)
 one_lecturer i n (Some q) h =
-    sum_below-one (λ l. one_if (eqb (lecturer_of i q) l)) n (lecturer_of i q) (λ k other. ap one_if (ne_eqb (lecturer_of i q) k (λ e. other (sym e)))) (h q refl)
+    sum_below-one (λ l. one_if (eqb (lecturer_of i q) l)) n (lecturer_of i q)
+    (λ k other. ap one_if (ne_eqb (lecturer_of i q) k (λ e. other (sym e)))) (h q refl)
     ∙ ap one_if (eq-eqb (lecturer_of i q) (lecturer_of i q) refl)
 
 -- lecturers together have whoever has a project
@@ -31,7 +32,8 @@ all_lecturers i n [] h = sym (sum_below-zero (at_lecturer i []) n (λ k _. refl)
 all_lecturers i n (o ∷ m) h =
     let first : ℕ → ℕ = λ l. one_if (is_lecturer i l o) in
     let split : sum_below (at_lecturer i (o ∷ m)) n ≡ sum_below first n + sum_below (at_lecturer i m) n =
-    sum_below-same (at_lecturer i (o ∷ m)) (λ l. first l + at_lecturer i m l) n (λ l. count_by-cons (is_lecturer i l) o m) ∙ sum_below-add first (at_lecturer i m) n in
+    sum_below-same (at_lecturer i (o ∷ m)) (λ l. first l + at_lecturer i m l) n (λ l. count_by-cons (is_lecturer i l) o m)
+    ∙ sum_below-add first (at_lecturer i m) n in
     omega (arith, split, one_lecturer i n o (h 0), all_lecturers i n m (λ s. h (suc s)), count_by-cons has_one o m)
 
 -- a sum that is greater has a term that is greater
@@ -50,7 +52,14 @@ pub more_over : (i : Spa) (l : ℕ) (m n : List (Option ℕ)) (extra : ℕ → �
     → (u : ℕ) × (lecturer_of i u ≡ l) × (at_project n u + extra u < at_project m u)
 more_over i l m n extra known_m known_n more =
     let count : ℕ = length i.lecturers in
-    let term = greater_term (share i m l) (λ u. share i n l u + extra u) count (omega (arith, more, at_lecturer-sum i l count m known_m, at_lecturer-sum i l count n known_n, sum_below-add (share i n l) extra count)) in
+    let term = greater_term (share i m l) (λ u. share i n l u + extra u) count
+    (omega (
+      arith,
+      more,
+      at_lecturer-sum i l count m known_m,
+      at_lecturer-sum i l count n known_n,
+      sum_below-add (share i n l) extra count,
+    )) in
     elim (cases_Bool (eqb (lecturer_of i term.0) l)) [
       | inl own ↦ (term.0, eqb-true (lecturer_of i term.0) l own, rw own at term.2)
       | inr other ↦ absurd (let less : 0 + extra term.0 < 0 = rw other at term.2 in omega arith)
@@ -70,7 +79,15 @@ pub one_there : (i : Spa) (m n : List (Option ℕ)) (u : ℕ) → length m ≡ l
 one_there i m n u same more =
     elim (greatest (λ s. (project_of m s ≡ Some u) × (project_of n s ≡ Some u → ⊥)) test (λ s. 0) (length m)) [
       | inl one ↦ (one.0, one.2.0, one.2.1)
-      | inr none ↦ absurd (omega (arith, no_more m n u same (λ s at. elim (has_project u (project_of n s)) [ inl both ↦ both | inr alone ↦ absurd (none s (student_in_range i m s u at) (at, alone)) ])))
+      | inr none ↦ absurd (omega (
+        arith,
+        no_more m n u same
+            (λ s at. elim (has_project u (project_of n s)) [
+              | inl both ↦ both
+              | inr alone ↦ absurd
+                  (none s (student_in_range i m s u at) (at, alone))
+            ]),
+      ))
     ]
   where
     test : (s : ℕ)
@@ -98,7 +115,11 @@ module _ (i : Spa) (law : IsRanked i) (m n : List (Option ℕ)) (best : IsBest i
     | inl there ↦ there
     | inr apart ↦
         let good : IsAsGood i s (Some u) (project_of n s) = subst (λ o. IsAsGood i s o (project_of n s)) has (best.best n stable s) in
-        absurd (stable.unblocked s u A (wants_best i n s u (best.stable.matching.acceptable s u has) apart (project_of n s) refl good, room.0, room.1))
+        absurd (stable.unblocked s u A (
+          wants_best i n s u (best.stable.matching.acceptable s u has) apart (project_of n s) refl good,
+          room.0,
+          room.1,
+        ))
   ]
 
   -- of a lecturer with room, no project has more in the best matching
@@ -116,7 +137,8 @@ module _ (i : Spa) (law : IsRanked i) (m n : List (Option ℕ)) (best : IsBest i
   no_more_with l = elim (cases_lt (at_lecturer i n l) (at_lecturer i m l)) [
     | inr least ↦ least
     | inl more ↦
-        let here = more_at i l m n (λ s q e. law.known s q (best.stable.matching.acceptable s q e)) (λ s q e. law.known s q (stable.matching.acceptable s q e)) more in
+        let here = more_at i l m n (λ s q e. law.known s q (best.stable.matching.acceptable s q e))
+        (λ s q e. law.known s q (stable.matching.acceptable s q e)) more in
         absurd (omega (arith, here.2, no_more_there here.0 (rw here.1 (omega (arith, more, best.stable.matching.lecturers l)))))
   ]
 
@@ -170,7 +192,9 @@ module _ (i : Spa) (law : IsRanked i) (m n : List (Option ℕ)) (best : IsBest i
         let l : ℕ = lecturer_of i u in
         let count : ℕ = length i.lecturers in
         let one = one_there i n m u (sym same_length) less in
-        let fewer = sum_below-lt (share i m l) (share i n l) count u (λ p. by_own p (eqb (lecturer_of i p) l) (eqb-true (lecturer_of i p) l)) (law.known one.0 u (stable.matching.acceptable one.0 u one.1)) (rw (eq-eqb l l refl) (omega (arith, less))) in
+        let fewer = sum_below-lt (share i m l) (share i n l) count u
+        (λ p. by_own p (eqb (lecturer_of i p) l) (eqb-true (lecturer_of i p) l))
+        (law.known one.0 u (stable.matching.acceptable one.0 u one.1)) (rw (eq-eqb l l refl) (omega (arith, less))) in
         absurd (omega (
           arith,
           fewer,
@@ -192,7 +216,9 @@ module _ (i : Spa) (law : IsRanked i) (m n : List (Option ℕ)) (best : IsBest i
     | inr apart ↦ absurd (omega (
       arith,
       as_many_there u room.1,
-      count_by-lt (is_project u) m n s same_length (λ t on. is_project-at u (project_of n t) (stays t u (project_from_test u (project_of m t) on) room)) (student_in_range i n s u has) (off_project u (project_of m s) apart) (is_project-at u (project_of n s) has),
+      count_by-lt (is_project u) m n s same_length
+          (λ t on. is_project-at u (project_of n t) (stays t u (project_from_test u (project_of m t) on) room))
+          (student_in_range i n s u has) (off_project u (project_of m s) apart) (is_project-at u (project_of n s) has),
     ))
   ]
 
@@ -211,16 +237,23 @@ module _ (i : Spa) (law : IsRanked i) (m n : List (Option ℕ)) (best : IsBest i
 pub same_assigned : (i : Spa) → IsRanked i → (m n : List (Option ℕ)) → IsStable i m → IsStable i n → AssignTheSame i m n
 same_assigned i law m n stable_m stable_n =
     let one = best_of i law in
-    let to : (a b : List (Option ℕ)) → IsStable i a → IsStable i b → (s : ℕ) → has_one (project_of b s) ≡ true → has_one (project_of a s) ≡ true =
+    let to : (a b : List (Option ℕ)) → IsStable i a → IsStable i b → (s : ℕ) → has_one (project_of b s) ≡ true
+    → has_one (project_of a s) ≡ true =
     λ a b sa sb s on. has_any i law one.0 a one.1 sa s (has_best i law one.0 b one.1 sb s on) in
-    let counts : (l : ℕ) → at_lecturer i m l ≡ at_lecturer i n l = λ l. sym (as_many i law one.0 m one.1 stable_m l) ∙ as_many i law one.0 n one.1 stable_n l in
+    let counts : (l : ℕ) → at_lecturer i m l ≡ at_lecturer i n l = λ l. sym (as_many i law one.0 m one.1 stable_m l)
+    ∙ as_many i law one.0 n one.1 stable_n l in
     record {
-      students = λ s. (none (project_of m s) (project_of n s) (to m n stable_m stable_n s), none (project_of n s) (project_of m s) (to n m stable_n stable_m s));
+      students = λ s. (
+        none (project_of m s) (project_of n s) (to m n stable_m stable_n s),
+        none (project_of n s) (project_of m s) (to n m stable_n stable_m s),
+      );
       lecturers = counts;
-      projects = λ p room. sym (as_many_there i law one.0 m one.1 stable_m p room) ∙ as_many_there i law one.0 n one.1 stable_n p (omega (arith, room, counts (lecturer_of i p)));
+      projects = λ p room. sym (as_many_there i law one.0 m one.1 stable_m p room)
+          ∙ as_many_there i law one.0 n one.1 stable_n p (omega (arith, room, counts (lecturer_of i p)));
       room = λ s p room.
           let here = both_ways i law one.0 m one.1 stable_m s p room in
-          let there = both_ways i law one.0 n one.1 stable_n s p (room_back i law one.0 n one.1 stable_n p (room_too i law one.0 m one.1 stable_m p room)) in
+          let there = both_ways i law one.0 n one.1 stable_n s p
+          (room_back i law one.0 n one.1 stable_n p (room_too i law one.0 m one.1 stable_m p room)) in
           (λ has. there.0 (here.1 has), λ has. here.0 (there.1 has));
     }
   where

@@ -70,22 +70,28 @@ module _ (i : Spa) (m : List (Option ℕ)) (there : IsMatching i m) (s p : ℕ) 
           → ((k : Letter) × Blocks i m s p k) ⊎ ((k : Letter) → Blocks i m s p k → ⊥)
       full_lecturer wants room full = elim (has_lecturer i l (project_of m s)) [
         | inl own ↦ inl (B, (wants, room, full, inl own))
-        | inr not_own ↦ elim (after_or_none (IsWith i m l) (λ t. has_lecturer i l (project_of m t)) (λ t own. student_in_range i m t own.0 own.1)) [
-          | inl one ↦ inl (B, (wants, room, full, inr one))
-          | inr none ↦ inr (none_at (λ _ room_l. omega (arith, full, room_l)) (λ _ _ why. elim why [ inl own ↦ not_own own | inr one ↦ none one.0 one.1 one.2 ]) (λ level _ _ _. omega (arith, level, room)))
-        ]
+        | inr not_own ↦ elim (after_or_none (IsWith i m l) (λ t. has_lecturer i l (project_of m t))
+            (λ t own. student_in_range i m t own.0 own.1)) [
+              | inl one ↦ inl (B, (wants, room, full, inr one))
+              | inr none ↦ inr (none_at (λ _ room_l. omega (arith, full, room_l))
+                  (λ _ _ why. elim why [ inl own ↦ not_own own | inr one ↦ none one.0 one.1 one.2 ])
+                  (λ level _ _ _. omega (arith, level, room)))
+            ]
       ]
 
       full_project : Wants i m s p → at_project m p ≡ capacity_of i p
           → ((k : Letter) × Blocks i m s p k) ⊎ ((k : Letter) → Blocks i m s p k → ⊥)
-      full_project wants full = elim (after_or_none (λ t. project_of m t ≡ Some p) (λ t. has_project p (project_of m t)) (λ t at. student_in_range i m t p at)) [
-        | inl one ↦ inl (C, (wants, full, one))
-        | inr none ↦ inr (none_at (λ room _. omega (arith, full, room)) (λ room _ _. omega (arith, full, room)) (λ _ t at after. none t at after))
-      ]
+      full_project wants full = elim (after_or_none (λ t. project_of m t ≡ Some p) (λ t. has_project p (project_of m t))
+          (λ t at. student_in_range i m t p at)) [
+            | inl one ↦ inl (C, (wants, full, one))
+            | inr none ↦ inr (none_at (λ room _. omega (arith, full, room)) (λ room _ _. omega (arith, full, room))
+                (λ _ t at after. none t at after))
+          ]
 
 module _ (i : Spa) (law : IsRanked i) (m x : List (Option ℕ)) (best : IsBest i m) (there : IsMatching i x) where
   as_good : (t : ℕ) → gains i m x t ≡ false → IsAsGood i t (project_of m t) (project_of x t)
-  as_good t misses = not_better i t (project_of x t) (project_of m t) (λ q e. there.acceptable t q e) (λ q e. best.stable.matching.acceptable t q e) misses
+  as_good t misses = not_better i t (project_of x t) (project_of m t) (λ q e. there.acceptable t q e)
+      (λ q e. best.stable.matching.acceptable t q e) misses
 
   -- a pair of t that blocks, where t does not gain
   abbrev Outside : ℕ → Type 0
@@ -97,10 +103,11 @@ module _ (i : Spa) (law : IsRanked i) (m x : List (Option ℕ)) (best : IsBest i
   outside_or_none : (t : ℕ) → Outside t ⊎ NoneOutside t
   outside_or_none t = elim (cases_Bool (gains i m x t)) [
     | inl meets ↦ inr (λ p k misses b. let wrong : true ≡ false = sym meets ∙ misses in cc)
-    | inr misses ↦ elim (one_or_all (λ p. (k : Letter) × Blocks i x t p k) (λ p. (k : Letter) → Blocks i x t p k → ⊥) (blocks_or_not i x there t) (length i.lecturers)) [
-      | inl one ↦ inl (one.0, one.2.0, one.2.1, as_good t misses)
-      | inr all ↦ inr (λ p k _ b. all p (law.known t p (blocks_wants i x t p k b).0) k b)
-    ]
+    | inr misses ↦ elim (one_or_all (λ p. (k : Letter) × Blocks i x t p k) (λ p. (k : Letter) → Blocks i x t p k → ⊥)
+        (blocks_or_not i x there t) (length i.lecturers)) [
+          | inl one ↦ inl (one.0, one.2.0, one.2.1, as_good t misses)
+          | inr all ↦ inr (λ p k _ b. all p (law.known t p (blocks_wants i x t p k b).0) k b)
+        ]
   ]
 
   -- SOMEBODY ELSE BLOCKS
@@ -110,6 +117,7 @@ module _ (i : Spa) (law : IsRanked i) (m x : List (Option ℕ)) (best : IsBest i
     | inl one ↦ (one.0, one.2.0, one.2.1, one.2.2, one.2.3)
     | inr all ↦ absurd (elim (cases_Bool (gains i m x s)) [
       | inr misses ↦ better (as_good s misses)
-      | inl meets ↦ blocked_outside i law m best x there s meets (λ t p k misses b. all t (acceptable_in_range i t p (blocks_wants i x t p k b).0) p k misses b)
+      | inl meets ↦ blocked_outside i law m best x there s meets
+          (λ t p k misses b. all t (acceptable_in_range i t p (blocks_wants i x t p k b).0) p k misses b)
     ])
   ]

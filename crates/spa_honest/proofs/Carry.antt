@@ -25,7 +25,8 @@ module _ (i j : Spa) (May : ℕ → Type 0) (m : List (Option ℕ)) (differ : Di
       by_own None e w = tt
       by_own (Some q) e w = rw e w
 
-module _ (i j : Spa) (May : ℕ → Type 0) (m : List (Option ℕ)) (differ : DifferInLists i j May) (law : IsRanked j) (stable : IsStable j m) where
+module _ (i j : Spa) (May : ℕ → Type 0) (m : List (Option ℕ)) (differ : DifferInLists i j May) (law : IsRanked j)
+    (stable : IsStable j m) where
   -- who stands after t for a lecturer stood so before
   worse : (t u : ℕ) → Wants j m t u → (x q : ℕ) → project_of m x ≡ Some q → lecturer_of i q ≡ lecturer_of i u
       → IsBefore (ranking_of i (lecturer_of i u)) t x → IsBefore (ranking_of j (lecturer_of j u)) t x
@@ -33,11 +34,18 @@ module _ (i j : Spa) (May : ℕ → Type 0) (m : List (Option ℕ)) (differ : Di
 
   -- no pair blocks it that is wanted there too
   pub unblocked_too : (t u : ℕ) → (Wants i m t u → Wants j m t u) → (x : Letter) → Blocks i m t u x → ⊥
-  unblocked_too t u wanted A b = stable.unblocked t u A (wanted b.0, omega (arith, b.1, same_capacity i j May m differ u), rw (same_lecturer i j May m differ u) (omega (arith, b.2, same_count i j May m differ (lecturer_of i u), same_limit i j May m differ (lecturer_of i u))))
+  unblocked_too t u wanted A b = stable.unblocked t u A (
+    wanted b.0,
+    omega (arith, b.1, same_capacity i j May m differ u),
+    rw (same_lecturer i j May m differ u) (omega
+        (arith, b.2, same_count i j May m differ (lecturer_of i u), same_limit i j May m differ (lecturer_of i u))),
+  )
   unblocked_too t u wanted B b = stable.unblocked t u B (
     wanted b.0,
     omega (arith, b.1, same_capacity i j May m differ u),
-    rw (same_lecturer i j May m differ u) (same_count i j May m differ (lecturer_of i u) ∙ b.2 ∙ sym (same_limit i j May m differ (lecturer_of i u))),
+    rw (same_lecturer i j May m differ u) (same_count i j May m differ (lecturer_of i u) ∙ b.2
+        ∙ sym (same_limit i j May m differ (lecturer_of i u))),
     grind (arith, same_lecturer, worse),
   )
-  unblocked_too t u wanted C b = stable.unblocked t u C (wanted b.0, b.1 ∙ sym (same_capacity i j May m differ u), (b.2.0, b.2.1, worse t u (wanted b.0) b.2.0 u b.2.1 refl b.2.2))
+  unblocked_too t u wanted C b = stable.unblocked t u C
+      (wanted b.0, b.1 ∙ sym (same_capacity i j May m differ u), (b.2.0, b.2.1, worse t u (wanted b.0) b.2.0 u b.2.1 refl b.2.2))

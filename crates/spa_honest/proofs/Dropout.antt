@@ -4,7 +4,8 @@ use Rattle.spa_honest.proofs.Base.{cases_eq, ne_eqb, get_or-set_same, get_or-set
 use Rattle.spa_honest.proofs.Base.{Letter, A, B, C, Spa, is_project, is_lecturer, at_project, at_lecturer, project_of}
 use Rattle.spa_honest.proofs.Base.{lecturer_of, Improves, Wants, IsWith, SomeWorseWith, Blocks, IsStable, student_in_range, ◌⊎◌, Bool, false}
 
-module _ (i : Spa) (m : List (Option ℕ)) (s q t p : ℕ) (stable : IsStable i m) (had : project_of m s ≡ Some q) (other : t ≢ s) (far : lecturer_of i p ≢ lecturer_of i q) where
+module _ (i : Spa) (m : List (Option ℕ)) (s q t p : ℕ) (stable : IsStable i m) (had : project_of m s ≡ Some q) (other : t ≢ s)
+    (far : lecturer_of i p ≢ lecturer_of i q) where
   abbrev out : List (Option ℕ)
   out = set m s None
 
@@ -17,7 +18,13 @@ module _ (i : Spa) (m : List (Option ℕ)) (s q t p : ℕ) (stable : IsStable i 
 
   -- a count to which s adds nothing
   as_many : (f : Option ℕ → Bool) → f None ≡ false → f (Some q) ≡ false → count_by f out ≡ count_by f m
-  as_many f off not_s = omega (arith, count_by-set f m s None (student_in_range i m s q had), ap (λ o. one_if (f o)) had, ap one_if off, ap one_if not_s)
+  as_many f off not_s = omega (
+    arith,
+    count_by-set f m s None (student_in_range i m s q had),
+    ap (λ o. one_if (f o)) had,
+    ap one_if off,
+    ap one_if not_s,
+  )
 
   at_p : at_project out p ≡ at_project m p
   at_p = as_many (is_project p) refl (ne_eqb q p (λ same. far (ap (lecturer_of i) (sym same))))

@@ -17,13 +17,33 @@ greatest P test rank zero = inr (λ x h p. omega arith)
 greatest P test rank (suc n) = elim (test n) [
   | inr misses ↦ elim (greatest P test rank n) [
     | inr none ↦ inr (λ x h p. elim (cases_eq x n) [ inl same ↦ misses (subst P same p) | inr other ↦ none x (omega arith) p ])
-    | inl one ↦ inl (one.0, omega (arith, one.1), one.2, λ x h p. elim (cases_eq x n) [ inl same ↦ absurd (misses (subst P same p)) | inr other ↦ one.3 x (omega arith) p ])
+    | inl one ↦ inl (
+      one.0,
+      omega (arith, one.1),
+      one.2,
+      λ x h p. elim (cases_eq x n) [ inl same ↦ absurd (misses (subst P same p)) | inr other ↦ one.3 x (omega arith) p ],
+    )
   ]
   | inl meets ↦ elim (greatest P test rank n) [
-    | inr none ↦ inl (n, omega arith, meets, λ x h p. elim (cases_eq x n) [ inl same ↦ rw same (omega arith) | inr other ↦ absurd (none x (omega arith) p) ])
+    | inr none ↦ inl (
+      n,
+      omega arith,
+      meets,
+      λ x h p. elim (cases_eq x n) [ inl same ↦ rw same (omega arith) | inr other ↦ absurd (none x (omega arith) p) ],
+    )
     | inl one ↦ elim (cases_lt (rank one.0) (rank n)) [
-      | inl less ↦ inl (n, omega arith, meets, λ x h p. elim (cases_eq x n) [ inl same ↦ rw same (omega arith) | inr other ↦ omega (arith, one.3 x (omega arith) p) ])
-      | inr more ↦ inl (one.0, omega (arith, one.1), one.2, λ x h p. elim (cases_eq x n) [ inl same ↦ rw same (omega arith) | inr other ↦ one.3 x (omega arith) p ])
+      | inl less ↦ inl (
+        n,
+        omega arith,
+        meets,
+        λ x h p. elim (cases_eq x n) [ inl same ↦ rw same (omega arith) | inr other ↦ omega (arith, one.3 x (omega arith) p) ],
+      )
+      | inr more ↦ inl (
+        one.0,
+        omega (arith, one.1),
+        one.2,
+        λ x h p. elim (cases_eq x n) [ inl same ↦ rw same (omega arith) | inr other ↦ one.3 x (omega arith) p ],
+      )
     ]
   ]
 ]
@@ -61,7 +81,11 @@ moved_other : (c : ℕ → ℕ) (w x : ℕ) → x ≢ w → moved c w x ≡ c x
 moved_other c w x other = rw (ne_eqb x w other)
 
 moved_more : (c : ℕ → ℕ) (w x : ℕ) → c x ≤ moved c w x
-moved_more c w x = elim (cases_eq x w) [ inl same ↦ rw same (omega (arith, moved_same c w)) | inr other ↦ omega (arith, moved_other c w x other) ]
+moved_more c w x = elim (cases_eq x w) [
+  | inl same ↦ rw same (omega (arith, moved_same c w))
+  | inr other ↦ omega
+      (arith, moved_other c w x other)
+]
 
 -- the pairs before the cursors
 abbrev pub Passed : Spa → (ℕ → ℕ) → ℕ → ℕ → Type 0
@@ -98,12 +122,17 @@ pub record Turned (i : Spa) (m : List (Option ℕ)) (c : ℕ → ℕ) (s : ℕ) 
   pub fewer : sum_below (turns i after cursors) (length i.choices) + 1 ≤ sum_below (turns i m c) (length i.choices)
 
 -- A TURN of a free student s, whose next entry is p
-module _ (i : Spa) (law : IsRanked i) (m : List (Option ℕ)) (c : ℕ → ℕ) (state : UnderWay i m c) (s p : ℕ) (next : IsNext i m c s) (on : IsAcceptable i s p) (here : place (choices_of i s) p ≡ c s) where
+module _ (i : Spa) (law : IsRanked i) (m : List (Option ℕ)) (c : ℕ → ℕ) (state : UnderWay i m c) (s p : ℕ) (next : IsNext i m c s)
+    (on : IsAcceptable i s p) (here : place (choices_of i s) p ≡ c s) where
   first : (q : ℕ) → IsBefore (choices_of i s) q p → Passed i c s q
   first q before = (omega (arith, before.0, before.1), omega (arith, before.0))
 
   put_cursor : (x q : ℕ) → project_of (set m s (Some p)) x ≡ Some q → place (choices_of i x) q ≡ c x
-  put_cursor x q e = elim (put_cases i m s p next.in_range next.free x q e) [ inl new ↦ rw (new.0, new.1) here | inr old ↦ state.at_cursor x q old ]
+  put_cursor x q e = elim (put_cases i m s p next.in_range next.free x q e) [
+    | inl new ↦ rw
+        (new.0, new.1) here
+    | inr old ↦ state.at_cursor x q old
+  ]
 
   -- s is put
   put_turns : (k : ℕ) → turns i (set m s (Some p)) c k ≤ turns i m c k
@@ -130,7 +159,8 @@ module _ (i : Spa) (law : IsRanked i) (m : List (Option ℕ)) (c : ℕ → ℕ) 
         → IsSpent i (set (set m s (Some p)) w None) w u
         → UnderWay i (set (set m s (Some p)) w None) (moved c w)
     let_go holds spent = record {
-      holds = delete_holds i (set (set m s (Some p)) w None) (Passed i c) (Passed i (moved c w)) law holds (λ x q old. (old.0, omega (arith, old.1, moved_more c w x))) new;
+      holds = delete_holds i (set (set m s (Some p)) w None) (Passed i c) (Passed i (moved c w)) law holds
+          (λ x q old. (old.0, omega (arith, old.1, moved_more c w x))) new;
       at_cursor = λ x q e. elim (cases_eq x w) [
         | inl same ↦ absurd (let none : project_of (set (set m s (Some p)) w None) x ≡ None = rw same w_free in cc)
         | inr other ↦ put_cursor x q (sym (gone_other x other) ∙ e) ∙ sym (moved_other c w x other)
@@ -153,8 +183,13 @@ module _ (i : Spa) (law : IsRanked i) (m : List (Option ℕ)) (c : ℕ → ℕ) 
       state = let_go holds spent;
       onward = moved_more c w;
       moves = λ x. elim (cases_eq x w) [ inl same ↦ inr (rw same w_free) | inr other ↦ inl (moved_other c w x other) ];
-      still = λ x other free. elim (cases_eq x w) [ inl same ↦ rw same w_free | inr apart ↦ gone_other x apart ∙ get_or-set_other m s x (Some p) None other ∙ free ];
-      fewer = sum_below-lt (turns i (set (set m s (Some p)) w None) (moved c w)) (turns i m c) (length i.choices) s go_turns (acceptable_in_range i s p on) go_less;
+      still = λ x other free. elim (cases_eq x w) [
+        | inl same ↦ rw same w_free
+        | inr apart ↦ gone_other x apart
+            ∙ get_or-set_other m s x (Some p) None other ∙ free
+      ];
+      fewer = sum_below-lt (turns i (set (set m s (Some p)) w None) (moved c w)) (turns i m c) (length i.choices) s go_turns
+          (acceptable_in_range i s p on) go_less;
     }
 
   in_range : (x q : ℕ) → project_of (set m s (Some p)) x ≡ Some q → x < length i.choices
@@ -173,22 +208,29 @@ module _ (i : Spa) (law : IsRanked i) (m : List (Option ℕ)) (c : ℕ → ℕ) 
           | inl room_l ↦ record {
             after = set m s (Some p);
             cursors = c;
-            state = record { holds = place_holds i m (Passed i c) state.holds s p next.in_range next.free on first room room_l; at_cursor = put_cursor };
+            state = record {
+              holds = place_holds i m (Passed i c) state.holds s p next.in_range next.free on first room room_l;
+              at_cursor = put_cursor;
+            };
             onward = λ x. omega arith;
             moves = λ x. inl refl;
             still = λ x other free. get_or-set_other m s x (Some p) None other ∙ free;
             fewer = sum_below-lt (turns i (set m s (Some p)) c) (turns i m c) n s put_turns s_in put_less;
           }
           | inr full_l ↦
-              let worst = the_greatest (IsWith i (set m s (Some p)) l) (λ x. has_lecturer i l (project_of (set m s (Some p)) x)) (rank_of i l) n s s_in (p, s_has, refl) in
+              let worst = the_greatest (IsWith i (set m s (Some p)) l) (λ x. has_lecturer i l (project_of (set m s (Some p)) x))
+              (rank_of i l) n s s_in (p, s_has, refl) in
               let full : at_lecturer i m l ≡ limit_of i l = omega (arith, full_l, state.holds.matching.lecturers l) in
-              let done = swap_at_lecturer_holds i m (Passed i c) state.holds s p next.in_range next.free on first law worst.0 worst.2.0 room full worst.2.1 worst.2.2 (λ x q e own. worst.3 x (in_range x q e) (q, e, own)) in
+              let done = swap_at_lecturer_holds i m (Passed i c) state.holds s p next.in_range next.free on first law worst.0 worst.2.0 room
+              full worst.2.1 worst.2.2 (λ x q e own. worst.3 x (in_range x q e) (q, e, own)) in
               goes worst.0 worst.2.0 worst.2.1 done.0 (inl done.1)
         ]
         | inr past ↦
-            let worst = the_greatest (λ x. project_of (set m s (Some p)) x ≡ Some p) (λ x. has_project p (project_of (set m s (Some p)) x)) (rank_of i l) n s s_in s_has in
+            let worst = the_greatest (λ x. project_of (set m s (Some p)) x ≡ Some p) (λ x. has_project p (project_of (set m s (Some p)) x))
+            (rank_of i l) n s s_in s_has in
             let full : at_project m p ≡ capacity_of i p = omega (arith, past, state.holds.matching.projects p) in
-            let done = swap_at_project_holds i m (Passed i c) state.holds s p next.in_range next.free on first law worst.0 full worst.2 (λ x e. worst.3 x (in_range x p e) e) in
+            let done = swap_at_project_holds i m (Passed i c) state.holds s p next.in_range next.free on first law worst.0 full worst.2
+            (λ x e. worst.3 x (in_range x p e) e) in
             goes worst.0 p worst.2 done.0 (inr done.1)
       ]
 
@@ -198,7 +240,8 @@ pub turn_of : (i : Spa) → IsRanked i → (m : List (Option ℕ)) (c : ℕ → 
 turn_of i law m c state s in_range free left =
     let p : ℕ = get_or (choices_of i s) (c s) 0 in
     let here : place (choices_of i s) p ≡ c s = place-get_or (choices_of i s) (c s) 0 (law.choices_distinct s) left in
-    turn i law m c state s p (record { in_range = omega (arith, in_range, state.holds.matching.students); free = free; left = left }) (omega (arith, left)) here
+    turn i law m c state s p (record { in_range = omega (arith, in_range, state.holds.matching.students); free = free; left = left })
+    (omega (arith, left)) here
 
 -- a place on each list, or its end, at which its student stops
 abbrev pub AreStops : Spa → (ℕ → ℕ) → Type 0
@@ -221,7 +264,11 @@ pub next_or_done : (i : Spa) (m : List (Option ℕ)) (c stop : ℕ → ℕ) → 
 next_or_done i m c stop stops =
     elim (greatest (HasTurn m c stop) test (λ x. 0) (length i.choices)) [
       | inl next ↦ inl (next.0, next.1, next.2)
-      | inr none ↦ inr (λ x free. elim (cases_lt (c x) (stop x)) [ inr come ↦ come | inl left ↦ absurd (none x (lister_in_range i x (omega (arith, left, stops x))) (free, left)) ])
+      | inr none ↦ inr (λ x free. elim (cases_lt (c x) (stop x)) [
+        | inr come ↦ come
+        | inl left ↦ absurd
+            (none x (lister_in_range i x (omega (arith, left, stops x))) (free, left))
+      ])
     ]
   where
     test : (x : ℕ) → HasTurn m c stop x ⊎ (HasTurn m c stop x → ⊥)
@@ -259,7 +306,8 @@ rest i law stop stops zero m c state within enough = absurd (omega arith)
 rest i law stop stops (suc fuel) m c state within enough = elim (next_or_done i m c stop stops) [
   | inl next ↦
       let one : Turned i m c next.0 = turn_of i law m c state next.0 next.1 next.2.0 (omega (arith, next.2.1, stops next.0)) in
-      let all = rest i law stop stops fuel one.after one.cursors one.state (still_within i m c stop next.0 one next.2.1 within) (omega (arith, one.fewer)) in
+      let all = rest i law stop stops fuel one.after one.cursors one.state (still_within i m c stop next.0 one next.2.1 within)
+      (omega (arith, one.fewer)) in
       record {
         after = all.after;
         cursors = all.cursors;
@@ -286,7 +334,9 @@ start i = record {
   free s p e = let none = none_there (length i.choices) s in cc
 
 pub from_start : (i : Spa) → IsRanked i → (stop : ℕ → ℕ) → AreStops i stop → Rested i stop (λ s. 0)
-from_start i law stop stops = rest i law stop stops (suc (sum_below (turns i (replicate (length i.choices) None) (λ s. 0)) (length i.choices))) (replicate (length i.choices) None) (λ s. 0) (start i) (λ x q e. absurd (let none = none_there (length i.choices) x in cc)) (omega arith)
+from_start i law stop stops = rest i law stop stops
+    (suc (sum_below (turns i (replicate (length i.choices) None) (λ s. 0)) (length i.choices))) (replicate (length i.choices) None) (λ s. 0)
+    (start i) (λ x q e. absurd (let none = none_there (length i.choices) x in cc)) (omega arith)
 
 -- EACH RANKED INSTANCE HAS A BEST MATCHING
 pub best_of : (i : Spa) → IsRanked i → (m : List (Option ℕ)) × IsBest i m

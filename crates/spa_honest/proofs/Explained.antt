@@ -13,13 +13,15 @@ module _ (i : Spa) (m : List (Option ℕ)) (s p : ℕ) (wants : Wants i m s p) w
     -- who is with the lecturer and not after s is above s
     above : (t q : ℕ) → project_of m t ≡ Some q → lecturer_of i q ≡ lecturer_of i p → (t ≡ s → ⊥)
         → (IsBefore (ranking_of i (lecturer_of i p)) s t → ⊥) → IsBefore (ranking_of i (lecturer_of i p)) t s
-    above t q at own other not_after = elim (cases_order (place (ranking_of i (lecturer_of i p)) t) (place (ranking_of i (lecturer_of i p)) s)) [
-      | inl level ↦ absurd (other (place-injective (ranking_of i (lecturer_of i p)) t s (rw own at (law.ranked t q (stable.matching.acceptable t q at))) level))
-      | inr apart ↦ elim apart [
-        | inl better ↦ (better, law.ranked s p wants.0)
-        | inr worse ↦ absurd (not_after (worse, rw own at (law.ranked t q (stable.matching.acceptable t q at))))
-      ]
-    ]
+    above t q at own other not_after = elim (cases_order (place (ranking_of i (lecturer_of i p)) t)
+        (place (ranking_of i (lecturer_of i p)) s)) [
+          | inl level ↦ absurd (other (place-injective (ranking_of i (lecturer_of i p)) t s
+              (rw own at (law.ranked t q (stable.matching.acceptable t q at))) level))
+          | inr apart ↦ elim apart [
+            | inl better ↦ (better, law.ranked s p wants.0)
+            | inr worse ↦ absurd (not_after (worse, rw own at (law.ranked t q (stable.matching.acceptable t q at))))
+          ]
+        ]
 
     pub why_not : IsTaken i m p s ⊎ IsBusy i m (lecturer_of i p) s
     why_not = elim (cases_lt (at_project m p) (capacity_of i p)) [
@@ -27,16 +29,20 @@ module _ (i : Spa) (m : List (Option ℕ)) (s p : ℕ) (wants : Wants i m s p) w
           let level : at_project m p ≡ capacity_of i p = omega (arith, full, stable.matching.projects p) in
           inl (record {
             full = level;
-            above = λ t at. above t p at refl (λ same. elsewhere (rw same at at)) (λ after. stable.unblocked s p C (wants, level, (t, at, after)));
+            above = λ t at. above t p at refl (λ same. elsewhere (rw same at at))
+                (λ after. stable.unblocked s p C (wants, level, (t, at, after)));
           })
       | inl room ↦ elim (cases_lt (at_lecturer i m (lecturer_of i p)) (limit_of i (lecturer_of i p))) [
         | inl room_l ↦ absurd (stable.unblocked s p A (wants, room, room_l))
         | inr full_l ↦
-            let level : at_lecturer i m (lecturer_of i p) ≡ limit_of i (lecturer_of i p) = omega (arith, full_l, stable.matching.lecturers (lecturer_of i p)) in
+            let level : at_lecturer i m (lecturer_of i p)
+            ≡ limit_of i (lecturer_of i p) = omega (arith, full_l, stable.matching.lecturers (lecturer_of i p)) in
             inr (record {
               full = level;
               above = λ t with'.
-                  above t with'.0 with'.1 with'.2 (λ same. stable.unblocked s p B (wants, room, level, inl (with'.0, rw same at with'.1, with'.2))) (λ after. stable.unblocked s p B (wants, room, level, inr (t, with', after)));
+                  above t with'.0 with'.1 with'.2 (λ same. stable.unblocked s p B
+                  (wants, room, level, inl (with'.0, rw same at with'.1, with'.2)))
+                  (λ after. stable.unblocked s p B (wants, room, level, inr (t, with', after)));
             })
       ]
     ]

@@ -51,7 +51,8 @@ module _ (i : Spa) (m n : List (Option ℕ)) (best : IsBest i m) where
 abbrev member : List ℕ → ℕ → Bool
 member group t = ltb (place group t) (length group)
 
-module _ (i j : Spa) (group : List ℕ) (m n x : List (Option ℕ)) (law : IsRanked j) (differ : DifferInLists i j (IsOn group)) (stable : IsStable j n) (adds : AddsTo j n x) (all : (t : ℕ) → IsOn group t → Gains i m x t) where
+module _ (i j : Spa) (group : List ℕ) (m n x : List (Option ℕ)) (law : IsRanked j) (differ : DifferInLists i j (IsOn group))
+    (stable : IsStable j n) (adds : AddsTo j n x) (all : (t : ℕ) → IsOn group t → Gains i m x t) where
   adds_here : AddsTo i n (joined (member group) x n)
   adds_here =
       let more = adds_joined j n x (member group) adds in
@@ -64,11 +65,14 @@ module _ (i j : Spa) (group : List ℕ) (m n x : List (Option ℕ)) (law : IsRan
       }
 
   of_group : (t : ℕ) → IsOn group t → project_of (joined (member group) x n) t ≡ project_of x t
-  of_group t on = joined_at (member group) x n t adds.students ∙ ap (λ b. cond b (project_of x t) (project_of n t)) (lt-ltb (place group t) (length group) on)
+  of_group t on = joined_at (member group) x n t adds.students
+      ∙ ap (λ b. cond b (project_of x t) (project_of n t)) (lt-ltb (place group t) (length group) on)
 
   of_others : (t : ℕ) → (IsOn group t → ⊥) → project_of (joined (member group) x n) t ≡ project_of n t
   of_others t off =
-      joined_at (member group) x n t adds.students ∙ ap (λ b. cond b (project_of x t) (project_of n t)) (false_from_ne_true (member group t) (λ e. off (ltb-true (place group t) (length group) e)))
+      joined_at (member group) x n t adds.students
+      ∙ ap (λ b. cond b (project_of x t) (project_of n t))
+      (false_from_ne_true (member group t) (λ e. off (ltb-true (place group t) (length group) e)))
 
   there : IsMatching i (joined (member group) x n)
   there = record {
@@ -89,7 +93,8 @@ module _ (i j : Spa) (group : List ℕ) (m n x : List (Option ℕ)) (law : IsRan
       → Blocks i (joined (member group) x n) t u k → ⊥
   unblocked t u k misses =
       let out : IsOn group t → ⊥ = λ on. let wrong : true ≡ false = sym (gains_too t on) ∙ misses in cc in
-      blocks_no_more i n (joined (member group) x n) adds_here t u (of_others t out) (unblocked_too i j (IsOn group) n differ law stable t u (wanted_too i j (IsOn group) n differ t u out)) k
+      blocks_no_more i n (joined (member group) x n) adds_here t u (of_others t out)
+      (unblocked_too i j (IsOn group) n differ law stable t u (wanted_too i j (IsOn group) n differ t u out)) k
 
   pub not_all : IsRanked i → IsBest i m → (t : ℕ) → IsOn group t → ⊥
   not_all lawful best t on = blocked_outside i lawful m best (joined (member group) x n) there t (gains_too t on) unblocked
@@ -99,23 +104,31 @@ pub no_group_gains_over_both : (i j : Spa) (group : List ℕ) (m n x : List (Opt
     → 1 ≤ length group → DifferInLists i j (IsOn group) → IsBest i m → IsStable j n → AddsTo j n x
     → (s : ℕ) × IsOn group s × IsNoWorse i s (project_of m s) (project_of x s)
 no_group_gains_over_both i j group m n x lawful law some differ best stable adds =
-    elim (one_or_all (λ k. IsNoWorse i (get_or group k 0) (project_of m (get_or group k 0)) (project_of x (get_or group k 0))) (λ k. Gains i m x (get_or group k 0)) (λ k. no_worse_or_gains i m x best (get_or group k 0)) (length group)) [
+    elim (one_or_all (λ k. IsNoWorse i (get_or group k 0) (project_of m (get_or group k 0)) (project_of x (get_or group k 0)))
+    (λ k. Gains i m x (get_or group k 0)) (λ k. no_worse_or_gains i m x best (get_or group k 0)) (length group)) [
       | inl one ↦ (get_or group one.0 0, omega (arith, one.1, place-get_or-le group one.0 0 one.1), one.2)
       | inr all ↦ absurd (
-          not_all i j group m n x law differ stable adds (λ t on. subst (Gains i m x) (get_or-place group t 0 on) (all (place group t) on)) lawful best
+          not_all i j group m n x law differ stable adds
+          (λ t on. subst (Gains i m x) (get_or-place group t 0 on) (all (place group t) on)) lawful best
           (get_or group 0 0) (omega (arith, place-get_or-le group 0 0 some))
           )
     ]
 
 -- a second round may give nothing
 adds_nothing : (j : Spa) (n : List (Option ℕ)) → IsStable j n → AddsTo j n n
-adds_nothing j n stable = record { students = refl; keeps = λ s p e. e; projects = stable.matching.projects; lecturers = stable.matching.lecturers }
+adds_nothing j n stable = record {
+  students = refl;
+  keeps = λ s p e. e;
+  projects = stable.matching.projects;
+  lecturers = stable.matching.lecturers;
+}
 
 -- in one round
 pub no_group_gains : (i j : Spa) (group : List ℕ) (m n : List (Option ℕ)) → IsRanked i → IsRanked j → 1 ≤ length group
     → DifferInLists i j (IsOn group) → IsBest i m → IsStable j n
     → (s : ℕ) × IsOn group s × IsNoWorse i s (project_of m s) (project_of n s)
-no_group_gains i j group m n lawful law some differ best stable = no_group_gains_over_both i j group m n n lawful law some differ best stable (adds_nothing j n stable)
+no_group_gains i j group m n lawful law some differ best stable =
+    no_group_gains_over_both i j group m n n lawful law some differ best stable (adds_nothing j n stable)
 
 -- ONE STUDENT: the group of one
 pub no_one_gains_over_both : (i j : Spa) (s : ℕ) (m n x : List (Option ℕ)) → IsRanked i → IsRanked j
@@ -134,7 +147,8 @@ no_one_gains_over_both i j s m n x lawful law differ best stable adds =
 -- NO OTHER LIST GAINS
 pub honest_is_best : (i j : Spa) (s : ℕ) (m n : List (Option ℕ)) → IsRanked i → IsRanked j → DifferInOneList i j s
     → IsBest i m → IsStable j n → IsNoWorse i s (project_of m s) (project_of n s)
-honest_is_best i j s m n lawful law differ best stable = no_one_gains_over_both i j s m n n lawful law differ best stable (adds_nothing j n stable)
+honest_is_best i j s m n lawful law differ best stable =
+    no_one_gains_over_both i j s m n n lawful law differ best stable (adds_nothing j n stable)
 
 -- NO OTHER ORDER of the same projects, or of some of them
 pub order_honestly : (i j : Spa) (s : ℕ) (m n : List (Option ℕ)) → IsRanked i → IsRanked j → DifferInOneList i j s

@@ -54,7 +54,8 @@ record Stopped (i : Spa) (best x : List (Option ℕ)) : Type 0 where
   pub passed : (s : ℕ) → gains i best x s ≡ true → spot i s (project_of x s) < cursors s
   pub last : (s : ℕ) × (gains i best x s ≡ true) × (project_of after s ≡ None)
 
-module _ (i : Spa) (law : IsRanked i) (best : List (Option ℕ)) (is_best : IsBest i best) (x : List (Option ℕ)) (there : IsMatching i x) where
+module _ (i : Spa) (law : IsRanked i) (best : List (Option ℕ)) (is_best : IsBest i best) (x : List (Option ℕ))
+    (there : IsMatching i x) where
   gains_some : (s : ℕ) (o : Option ℕ) → better i s o (project_of best s) ≡ true → (p : ℕ) × (o ≡ Some p)
   gains_some s None meets = absurd (cc)
   gains_some s (Some p) meets = (p, refl)
@@ -62,7 +63,11 @@ module _ (i : Spa) (law : IsRanked i) (best : List (Option ℕ)) (is_best : IsBe
   waits : (c : ℕ → ℕ) (s : ℕ) → Waits i best x c s ⊎ (Waits i best x c s → ⊥)
   waits c s = elim (cases_Bool (gains i best x s)) [
     | inr misses ↦ inr (λ w. let wrong : true ≡ false = sym w.0 ∙ misses in cc)
-    | inl meets ↦ elim (cases_lt (spot i s (project_of x s)) (c s)) [ inl passed ↦ inr (λ w. omega (arith, w.1)) | inr ahead ↦ inl (meets, ahead) ]
+    | inl meets ↦ elim (cases_lt (spot i s (project_of x s)) (c s)) [
+      | inl passed ↦ inr (λ w. omega (arith, w.1))
+      | inr ahead ↦ inl
+          (meets, ahead)
+    ]
   ]
 
   in_range : (s : ℕ) → gains i best x s ≡ true → s < length i.choices
@@ -83,13 +88,19 @@ module _ (i : Spa) (law : IsRanked i) (best : List (Option ℕ)) (is_best : IsBe
       each (Some q) e =
           let has = gains_some s (project_of x s) wait.0 in
           let p : ℕ = has.0 in
-          let le : place (choices_of i s) q ≤ place (choices_of i s) p = omega (arith, state.at_cursor s q e, wait.1, ap (spot i s) has.1) in
+          let le : place (choices_of i s) q ≤ place (choices_of i s) p =
+          omega (arith, state.at_cursor s q e, wait.1, ap (spot i s) has.1) in
           let q_on : IsAcceptable i s q = state.holds.matching.acceptable s q e in
           let p_on : IsAcceptable i s p = there.acceptable s p has.1 in
           let good : IsAsGood i s (Some q) (Some p) =
-          elim (cases_eq (place (choices_of i s) q) (place (choices_of i s) p)) [ inl level ↦ inl (place-injective (choices_of i s) q p q_on level) | inr apart ↦ inr (omega arith, p_on) ] in
+          elim (cases_eq (place (choices_of i s) q) (place (choices_of i s) p)) [
+            | inl level ↦ inl
+                (place-injective (choices_of i s) q p q_on level)
+            | inr apart ↦ inr (omega arith, p_on)
+          ] in
           better_not i s (project_of x s) (project_of best s) wait.0
-          (rw has.1 (as_good_trans i s (project_of best s) (Some q) (Some p) (subst (λ o. IsAsGood i s (project_of best s) o) e (is_best.best m stable.stable s)) good))
+          (rw has.1 (as_good_trans i s (project_of best s) (Some q) (Some p)
+          (subst (λ o. IsAsGood i s (project_of best s) o) e (is_best.best m stable.stable s)) good))
 
   until : (fuel : ℕ) (m : List (Option ℕ)) (c : ℕ → ℕ) → UnderWay i m c → (s : ℕ) → Waits i best x c s
       → sum_below (turns i m c) (length i.choices) < fuel → Stopped i best x
@@ -105,33 +116,63 @@ module _ (i : Spa) (law : IsRanked i) (best : List (Option ℕ)) (is_best : IsBe
             cursors = one.cursors;
             state = one.state;
             passed = λ z meets. passed z meets one.cursors over;
-            last = (s, wait.0, elim (one.moves s) [ inl same ↦ absurd (omega (arith, same, wait.1, passed s wait.0 one.cursors over)) | inr free ↦ free ]);
+            last = (
+              s,
+              wait.0,
+              elim (one.moves s) [
+                | inl same ↦ absurd
+                    (omega (arith, same, wait.1, passed s wait.0 one.cursors over))
+                | inr free ↦ free
+              ],
+            );
           }
         ]
   ]
     where
       passed : (z : ℕ) → gains i best x z ≡ true → (d : ℕ → ℕ)
           → ((z : ℕ) → z < length i.choices → Waits i best x d z → ⊥) → spot i z (project_of x z) < d z
-      passed z meets d over = elim (cases_lt (spot i z (project_of x z)) (d z)) [ inl here ↦ here | inr ahead ↦ absurd (over z (in_range z meets) (meets, ahead)) ]
+      passed z meets d over = elim (cases_lt (spot i z (project_of x z)) (d z)) [
+        | inl here ↦ here
+        | inr ahead ↦ absurd
+            (over z (in_range z meets) (meets, ahead))
+      ]
 
   -- so there is a matching that turns all of them away and leaves one with nothing
   pub turned_away : (s : ℕ) → gains i best x s ≡ true → (y : List (Option ℕ)) × TurnsAway i (gains i best x) x y
   turned_away s meets =
-      let one : Stopped i best x = until (suc (sum_below (turns i (replicate (length i.choices) None) (λ z. 0)) (length i.choices))) (replicate (length i.choices) None) (λ z. 0) (start i) s (meets, omega arith) (omega arith) in
+      let one : Stopped i best x = until (suc (sum_below (turns i (replicate (length i.choices) None) (λ z. 0)) (length i.choices)))
+      (replicate (length i.choices) None) (λ z. 0) (start i) s (meets, omega arith) (omega arith) in
       let z : ℕ = one.last.0 in
-      let all : Rested i (stop z) one.cursors = rest i law (stop z) (stops z) (suc (sum_below (turns i one.after one.cursors) (length i.choices))) one.after one.cursors one.state (within one) (omega arith) in (
+      let all : Rested i (stop z) one.cursors =
+      rest i law (stop z) (stops z) (suc (sum_below (turns i one.after one.cursors) (length i.choices))) one.after one.cursors one.state
+      (within one) (omega arith) in (
         all.after,
         record {
           there = there;
           here = all.state.holds.matching;
           away = λ t of.
-              let has = gains_some t (project_of x t) of in
-              (has.0, has.1, all.state.holds.spent t has.0 (there.acceptable t has.0 has.1, omega (arith, ap (spot i t) has.1, one.passed t of, all.onward t)));
+              let has = gains_some t (project_of x t) of in (
+                has.0,
+                has.1,
+                all.state.holds.spent t has.0
+                    (there.acceptable t has.0 has.1, omega (arith, ap (spot i t) has.1, one.passed t of, all.onward t)),
+              );
           no_worse = λ t out.
               let as_best : IsAsGood i t (project_of all.after t) (project_of best t) =
-              as_good_as_stable i all.after (Passed i all.cursors) all.state.holds best is_best.stable t (λ p free on. (on, omega (arith, on, all.done t free, not_last z t (λ e. let wrong : true ≡ false = sym (subst (λ k. gains i best x k ≡ true) (sym e) one.last.1) ∙ out in cc)))) in
+              as_good_as_stable i all.after (Passed i all.cursors) all.state.holds best is_best.stable t
+              (λ p free on. (
+                on,
+                omega (
+                  arith,
+                  on,
+                  all.done t free,
+                  not_last z t (λ e. let wrong : true ≡ false = sym (subst (λ k. gains i best x k ≡ true) (sym e) one.last.1)
+                      ∙ out in cc),
+                ),
+              )) in
               as_good_trans i t (project_of all.after t) (project_of best t) (project_of x t) as_best
-              (not_better i t (project_of x t) (project_of best t) (λ p e. there.acceptable t p e) (λ q e. is_best.stable.matching.acceptable t q e) out);
+              (not_better i t (project_of x t) (project_of best t) (λ p e. there.acceptable t p e)
+              (λ q e. is_best.stable.matching.acceptable t q e) out);
           last = (z, one.last.1, nothing all.after z (λ q e. omega (arith, all.within z q e, stop_last z)));
         },
       )
@@ -147,7 +188,11 @@ module _ (i : Spa) (law : IsRanked i) (best : List (Option ℕ)) (is_best : IsBe
       not_last z t other = rw (ne_eqb t z other) refl
 
       stops : (z : ℕ) → AreStops i (stop z)
-      stops z t = elim (cases_eq t z) [ inl same ↦ omega (arith, ap (stop z) same, stop_last z) | inr other ↦ omega (arith, not_last z t other) ]
+      stops z t = elim (cases_eq t z) [
+        | inl same ↦ omega (arith, ap (stop z) same, stop_last z)
+        | inr other ↦ omega
+            (arith, not_last z t other)
+      ]
 
       within : (one : Stopped i best x) (t q : ℕ) → project_of one.after t ≡ Some q → one.cursors t < stop one.last.0 t
       within one t q e = elim (cases_eq t one.last.0) [

@@ -28,7 +28,8 @@ pub only_length : (r : ℕ → Bool) (m : List (Option ℕ)) → length (only r 
 only_length r m = joined_length r m (replicate (length m) None) (sym (length-replicate (length m) None)) ∙ length-replicate (length m) None
 
 only_at : (r : ℕ → Bool) (m : List (Option ℕ)) (s : ℕ) → project_of (only r m) s ≡ cond (r s) (project_of m s) None
-only_at r m s = joined_at r m (replicate (length m) None) s (sym (length-replicate (length m) None)) ∙ ap (cond (r s) (project_of m s)) (none_there (length m) s)
+only_at r m s = joined_at r m (replicate (length m) None) s (sym (length-replicate (length m) None))
+    ∙ ap (cond (r s) (project_of m s)) (none_there (length m) s)
 
 -- who keeps a project is of r and has it
 pub only_has : (r : ℕ → Bool) (m : List (Option ℕ)) (s q : ℕ) → project_of (only r m) s ≡ Some q
@@ -97,13 +98,19 @@ pub record Grown (i : Spa) (cs ls : List ℕ) : Type 0 where
 pub not_grown : (i : Spa) → Grown i i.capacities i.limits
 not_grown i = record {
   capacities = λ p. omega arith;
-  limits = λ l. inl (omega (arith, sum_below-zero (growth i i.capacities l) (length i.lecturers) (λ p _. none l p (eqb (lecturer_of i p) l))));
+  limits = λ l. inl (omega (
+    arith,
+    sum_below-zero (growth i i.capacities l) (length i.lecturers)
+        (λ p _. none l p (eqb (lecturer_of i p) l)),
+  ));
 } where
   none : (l p : ℕ) (b : Bool) → cond b (capacity_of i p - capacity_of i p) 0 ≡ 0
   none l p true = omega arith
   none l p false = refl
 
-module _ (i : Spa) (law : IsRanked i) (cs ls : List ℕ) (grown : Grown i cs ls) (r : ℕ → Bool) (x y : List (Option ℕ)) (turns : TurnsAway i r x y) (fits : IsMatching (with_room i cs ls) x) (unblocked : (t u : ℕ) (k : Letter) → r t ≡ false → Blocks (with_room i cs ls) x t u k → ⊥) where
+module _ (i : Spa) (law : IsRanked i) (cs ls : List ℕ) (grown : Grown i cs ls) (r : ℕ → Bool) (x y : List (Option ℕ))
+    (turns : TurnsAway i r x y) (fits : IsMatching (with_room i cs ls) x)
+    (unblocked : (t u : ℕ) (k : Letter) → r t ≡ false → Blocks (with_room i cs ls) x t u k → ⊥) where
   same : length x ≡ length y
   same = turns.there.students ∙ sym turns.here.students
 
@@ -112,15 +119,23 @@ module _ (i : Spa) (law : IsRanked i) (cs ls : List ℕ) (grown : Grown i cs ls)
 
   -- t, outside r, has u in y, not in x; u's lecturer has s in x, after t; a full u has one after t
   blocks : (t u : ℕ) → r t ≡ false → project_of y t ≡ Some u → (project_of x t ≡ Some u → ⊥)
-      → (s q : ℕ) → project_of x s ≡ Some q → lecturer_of i q ≡ lecturer_of i u → rank_of i (lecturer_of i u) t < rank_of i (lecturer_of i u) s
-      → (at_project x u ≡ get_or cs u 0 → (z : ℕ) × (project_of x z ≡ Some u) × (rank_of i (lecturer_of i u) t < rank_of i (lecturer_of i u) z)) → ⊥
+      → (s q : ℕ) → project_of x s ≡ Some q → lecturer_of i q ≡ lecturer_of i u
+      → rank_of i (lecturer_of i u) t < rank_of i (lecturer_of i u) s
+      → (at_project x u ≡ get_or cs u 0 → (z : ℕ) × (project_of x z ≡ Some u)
+      × (rank_of i (lecturer_of i u) t < rank_of i (lecturer_of i u) z)) → ⊥
   blocks t u out at not_there s q has own less at_full =
-      let wants : Wants i x t u = wants_best i x t u (turns.here.acceptable t u at) not_there (project_of x t) refl (subst (λ o. IsAsGood i t o (project_of x t)) at (turns.no_worse t out)) in
+      let wants : Wants i x t u = wants_best i x t u (turns.here.acceptable t u at) not_there (project_of x t) refl
+      (subst (λ o. IsAsGood i t o (project_of x t)) at (turns.no_worse t out)) in
       let on : IsOn (ranking_of i (lecturer_of i u)) s = rw own at (law.ranked s q (turns.there.acceptable s q has)) in
       elim (cases_lt (at_project x u) (get_or cs u 0)) [
         | inl room ↦ elim (cases_lt (at_lecturer i x (lecturer_of i u)) (get_or ls (lecturer_of i u) 0)) [
           | inl room_l ↦ unblocked t u A out (wants, room, room_l)
-          | inr full_l ↦ unblocked t u B out (wants, room, omega (arith, full_l, fits.lecturers (lecturer_of i u)), inr (s, (q, has, own), (less, on)))
+          | inr full_l ↦ unblocked t u B out (
+            wants,
+            room,
+            omega (arith, full_l, fits.lecturers (lecturer_of i u)),
+            inr (s, (q, has, own), (less, on)),
+          )
         ]
         | inr full ↦
             let level : at_project x u ≡ get_or cs u 0 = omega (arith, full, fits.projects u) in
@@ -132,7 +147,8 @@ module _ (i : Spa) (law : IsRanked i) (cs ls : List ℕ) (grown : Grown i cs ls)
   instead : (p : ℕ) → at_project (only (others r) x) p < at_project (only (others r) y) p
       → (t : ℕ) × (r t ≡ false) × (project_of y t ≡ Some p) × (project_of x t ≡ Some p → ⊥)
   instead p more =
-      let one = one_there i (only (others r) y) (only (others r) x) p (only_length (others r) y ∙ sym same ∙ sym (only_length (others r) x)) more in
+      let one = one_there i (only (others r) y) (only (others r) x) p
+      (only_length (others r) y ∙ sym same ∙ sym (only_length (others r) x)) more in
       let at = only_has (others r) y one.0 p one.1 in
       (one.0, others_not r one.0 at.0, at.1, λ e. one.2 (only_keeps (others r) x one.0 at.0 ∙ e))
 
@@ -153,15 +169,19 @@ module _ (i : Spa) (law : IsRanked i) (cs ls : List ℕ) (grown : Grown i cs ls)
   fewer_with : (l : ℕ) × (at_lecturer i (only r y) l < at_lecturer i (only r x) l)
   fewer_with =
       let count : ℕ = length i.rankings in
-      let all_x : count_by has_one (only r x) ≡ sum_below (at_lecturer i (only r x)) count = all_lecturers i count (only r x) (λ s q e. law.offered q (known_x r s q e)) in
-      let all_y : count_by has_one (only r y) ≡ sum_below (at_lecturer i (only r y)) count = all_lecturers i count (only r y) (λ s q e. law.offered q (known_y r s q e)) in
+      let all_x : count_by has_one (only r x) ≡ sum_below (at_lecturer i (only r x)) count =
+      all_lecturers i count (only r x) (λ s q e. law.offered q (known_x r s q e)) in
+      let all_y : count_by has_one (only r y) ≡ sum_below (at_lecturer i (only r y)) count =
+      all_lecturers i count (only r y) (λ s q e. law.offered q (known_y r s q e)) in
       let s : ℕ = turns.last.0 in
       let of : r s ≡ true = turns.last.1 in
       let why = turns.away s of in
       let has : project_of (only r x) s ≡ Some why.0 = only_keeps r x s of ∙ why.1 in
       let none : project_of (only r y) s ≡ None = only_keeps r y s of ∙ turns.last.2 in
       let less : count_by has_one (only r y) + 1 ≤ count_by has_one (only r x) =
-      count_by-lt has_one (only r y) (only r x) s (only_length r y ∙ sym same ∙ sym (only_length r x)) (λ z on. kept z (project_of (only r y) z) refl on) (student_in_range i (only r x) s why.0 has) (ap has_one none) (ap has_one has) in
+      count_by-lt has_one (only r y) (only r x) s (only_length r y ∙ sym same ∙ sym (only_length r x))
+      (λ z on. kept z (project_of (only r y) z) refl on) (student_in_range i (only r x) s why.0 has) (ap has_one none)
+      (ap has_one has) in
       let term = greater_term (at_lecturer i (only r x)) (at_lecturer i (only r y)) count (omega (arith, all_x, all_y, less)) in
       (term.0, term.2)
     where
@@ -213,13 +233,17 @@ module _ (i : Spa) (law : IsRanked i) (cs ls : List ℕ) (grown : Grown i cs ls)
         | inl lecturer ↦
             let full_y : at_lecturer i y l ≡ limit_of i l = rw at.1 at lecturer.full in
             elim (grown.limits l) [
-              | inr enough ↦ full_there s p mine.1 at.2 (all_full l p at.1 (known_x r s p one.1) full_y enough) (λ t has. lecturer.before t p has refl)
+              | inr enough ↦ full_there s p mine.1 at.2 (all_full l p at.1 (known_x r s p one.1) full_y enough)
+                  (λ t has. lecturer.before t p has refl)
               | inl more ↦
-                  let u = more_over i l (only (others r) y) (only (others r) x) (growth i cs l) (known_y (others r)) (known_x (others r)) (omega (arith, few.1, split_l x l, split_l y l, full_y, fits.lecturers l, more)) in
+                  let u = more_over i l (only (others r) y) (only (others r) x) (growth i cs l) (known_y (others r)) (known_x (others r))
+                  (omega (arith, few.1, split_l x l, split_l y l, full_y, fits.lecturers l, more)) in
                   let same_l : lecturer_of i p ≡ lecturer_of i u.0 = at.1 ∙ sym u.1 in
                   let t = instead u.0 (omega (arith, u.2)) in
-                  let less : rank_of i (lecturer_of i u.0) t.0 < rank_of i (lecturer_of i u.0) s = rw same_l at (lecturer.before t.0 u.0 t.2 (sym same_l)) in
-                  blocks t.0 u.0 t.1 t.2 t.3 s p mine.1 same_l less (λ full. at_full u.0 (rw (eq-eqb (lecturer_of i u.0) l u.1) at u.2) t.0 t.2 full)
+                  let less : rank_of i (lecturer_of i u.0) t.0 < rank_of i (lecturer_of i u.0) s =
+                  rw same_l at (lecturer.before t.0 u.0 t.2 (sym same_l)) in
+                  blocks t.0 u.0 t.1 t.2 t.3 s p mine.1 same_l less
+                  (λ full. at_full u.0 (rw (eq-eqb (lecturer_of i u.0) l u.1) at u.2) t.0 t.2 full)
             ]
       ]
     where
@@ -228,6 +252,14 @@ module _ (i : Spa) (law : IsRanked i) (cs ls : List ℕ) (grown : Grown i cs ls)
           → (t : ℕ) → project_of y t ≡ Some u → at_project x u ≡ get_or cs u 0
           → (z : ℕ) × (project_of x z ≡ Some u) × (rank_of i (lecturer_of i u) t < rank_of i (lecturer_of i u) z)
       at_full u more t has full =
-          let one = one_there i (only r x) (only r y) u (only_length r x ∙ same ∙ sym (only_length r y)) (omega (arith, more, split x u, split y u, full, turns.here.projects u)) in
-          let mine = only_has r x one.0 u one.1 in
-          (one.0, mine.1, elim (spent one.0 u mine.0 mine.1) [ inl lecturer ↦ lecturer.before t u has refl | inr project ↦ project.before t has ])
+          let one = one_there i (only r x) (only r y) u (only_length r x ∙ same ∙ sym (only_length r y))
+          (omega (arith, more, split x u, split y u, full, turns.here.projects u)) in
+          let mine = only_has r x one.0 u one.1 in (
+            one.0,
+            mine.1,
+            elim (spent one.0 u mine.0 mine.1) [
+              | inl lecturer ↦ lecturer.before t u has refl
+              | inr project ↦ project.before t
+                  has
+            ],
+          )

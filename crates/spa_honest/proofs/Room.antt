@@ -9,7 +9,8 @@ use Rattle.spa_honest.proofs.Last.{not_better, gains, turned_away}
 module _ (i : Spa) (capacities limits : List ℕ) (gives : GivesRoom i (with_room i capacities limits)) where
   -- what is added to a lecturer's projects
   added : (l n : ℕ)
-      → sum_below (growth (with_room i capacities limits) i.capacities l) n + places_among i l n ≡ places_among (with_room i capacities limits) l n
+      → sum_below (growth (with_room i capacities limits) i.capacities l) n + places_among i l n
+      ≡ places_among (with_room i capacities limits) l n
   added l zero = refl
   added l (suc n) = omega (arith, added l n, one n (eqb (lecturer_of i n) l))
     where
@@ -50,9 +51,11 @@ pub more_room : (i : Spa) (capacities limits : List ℕ) (m n : List (Option ℕ
     → IsRanked (with_room i capacities limits) → GivesRoom i (with_room i capacities limits) → IsStable i m
     → IsBest (with_room i capacities limits) n → (s : ℕ) → IsAsGood i s (project_of n s) (project_of m s)
 more_room i capacities limits m n lawful law gives stable best s = elim (cases_Bool (gains (with_room i capacities limits) n m s)) [
-  | inr misses ↦ not_better (with_room i capacities limits) s (project_of m s) (project_of n s) (λ q e. stable.matching.acceptable s q e) (λ q e. best.stable.matching.acceptable s q e) misses
+  | inr misses ↦ not_better (with_room i capacities limits) s (project_of m s) (project_of n s) (λ q e. stable.matching.acceptable s q e)
+      (λ q e. best.stable.matching.acceptable s q e) misses
   | inl meets ↦ absurd (
       let y = turned_away (with_room i capacities limits) law n best m (there i capacities limits gives m lawful stable) s meets in
-      outside (with_room i capacities limits) law i.capacities i.limits (grown i capacities limits gives) (gains (with_room i capacities limits) n m) m y.0 y.1 stable.matching (λ t u k out. stable.unblocked t u k)
+      outside (with_room i capacities limits) law i.capacities i.limits (grown i capacities limits gives)
+      (gains (with_room i capacities limits) n m) m y.0 y.1 stable.matching (λ t u k out. stable.unblocked t u k)
       )
 ]

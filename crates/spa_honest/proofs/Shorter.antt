@@ -44,13 +44,20 @@ no_longer : (i j : Spa) → AreCut i j → (s : ℕ) → length (choices_of j s)
 no_longer i j cut s = omega (arith, ap length (cut s).1, length-take (cut s).0 (choices_of i s))
 
 -- the matching at that end is stable in j
-module _ (i j : Spa) (May : ℕ → Type 0) (law : IsRanked i) (differ : DifferInLists i j May) (cut : AreCut i j) (end : Rested i (λ s. length (choices_of j s)) (λ s. 0)) where
+module _ (i j : Spa) (May : ℕ → Type 0) (law : IsRanked i) (differ : DifferInLists i j May) (cut : AreCut i j)
+    (end : Rested i (λ s. length (choices_of j s)) (λ s. 0)) where
   fits : IsMatching j end.after
   fits = record {
     students = end.state.holds.matching.students ∙ sym differ.students;
-    acceptable = λ t q e. stands_too i j cut t q (end.state.holds.matching.acceptable t q e) (omega (arith, end.within t q e, end.state.at_cursor t q e));
+    acceptable = λ t q e. stands_too i j cut t q (end.state.holds.matching.acceptable t q e)
+        (omega (arith, end.within t q e, end.state.at_cursor t q e));
     projects = λ p. omega (arith, end.state.holds.matching.projects p, same_capacity i j May end.after differ p);
-    lecturers = λ l. omega (arith, end.state.holds.matching.lecturers l, same_count i j May end.after differ l, same_limit i j May end.after differ l);
+    lecturers = λ l. omega (
+      arith,
+      end.state.holds.matching.lecturers l,
+      same_count i j May end.after differ l,
+      same_limit i j May end.after differ l,
+    );
   }
 
   -- who wants a project there has passed it
@@ -71,7 +78,8 @@ module _ (i j : Spa) (May : ℕ → Type 0) (law : IsRanked i) (differ : DifferI
         → ⊥
     not_after z q at less after =
         let here : IsBefore (ranking_of j (lecturer_of i u)) t z = rw (same_lecturer i j May end.after differ u) at after in
-        let before = differ.orders (lecturer_of i u) z t here.1 (omega (arith, here.0, here.1)) (less, law.ranked t u (spent t u wants).0) in
+        let before = differ.orders (lecturer_of i u) z t here.1 (omega (arith, here.0, here.1))
+        (less, law.ranked t u (spent t u wants).0) in
         omega (arith, before.0, here.0)
 
     full_p : at_project end.after u ≡ capacity_of i u → at_project end.after u < capacity_of j u → ⊥
@@ -80,8 +88,15 @@ module _ (i j : Spa) (May : ℕ → Type 0) (law : IsRanked i) (differ : DifferI
     full_l : at_lecturer i end.after (lecturer_of i u) ≡ limit_of i (lecturer_of i u)
         → at_lecturer j end.after (lecturer_of j u) < limit_of j (lecturer_of j u) → ⊥
     full_l full room =
-        let here : at_lecturer j end.after (lecturer_of i u) < limit_of j (lecturer_of i u) = rw (same_lecturer i j May end.after differ u) at room in
-        omega (arith, full, here, same_count i j May end.after differ (lecturer_of i u), same_limit i j May end.after differ (lecturer_of i u))
+        let here : at_lecturer j end.after (lecturer_of i u) < limit_of j (lecturer_of i u) =
+        rw (same_lecturer i j May end.after differ u) at room in
+        omega (
+          arith,
+          full,
+          here,
+          same_count i j May end.after differ (lecturer_of i u),
+          same_limit i j May end.after differ (lecturer_of i u),
+        )
 
     own : (q : ℕ) → lecturer_of j q ≡ lecturer_of j u → lecturer_of i q ≡ lecturer_of i u
     own q e = sym (same_lecturer i j May end.after differ q) ∙ e ∙ same_lecturer i j May end.after differ u
@@ -111,5 +126,7 @@ shorter_never_harm i j m n t law differ cut stable best =
     let end : Rested i (λ s. length (choices_of j s)) (λ s. 0) = from_start i law (λ s. length (choices_of j s)) (no_longer i j cut) in
     let same : choices_of j t ≡ choices_of i t = differ.others t (λ other. other refl) in
     as_good_trans i t (project_of n t) (project_of end.after t) (project_of m t)
-    (as_good_alike i j t same (project_of n t) (project_of end.after t) (best.best end.after (stable_at_end i j (λ s. s ≢ t) law differ cut end) t))
-    (as_good_as_stable i end.after (Passed i end.cursors) end.state.holds m stable t (λ p free on. (on, omega (arith, on, end.done t free, ap length same))))
+    (as_good_alike i j t same (project_of n t) (project_of end.after t)
+    (best.best end.after (stable_at_end i j (λ s. s ≢ t) law differ cut end) t))
+    (as_good_as_stable i end.after (Passed i end.cursors) end.state.holds m stable t
+    (λ p free on. (on, omega (arith, on, end.done t free, ap length same))))

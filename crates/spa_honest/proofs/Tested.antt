@@ -1,4 +1,4 @@
--- What is computed of a small instance: that it is lawful, and the matching that alone is stable.
+-- What is computed of a small instance: that it is lawful, and that a matching is stable or the best.
 use Rattle.spa_honest.proofs.Base.{◌≡◌, ◌≢◌, inl, inr, ℕ, zero, suc, ◌<◌, ◌≤◌, Bool, true, false, eqb, List, [], ◌∷◌}
 use Rattle.spa_honest.proofs.Base.{length, get_or, refl, ap, arith, subst, AllPairs, Less, nat_cmp, slice_cmp, eqb-true}
 use Rattle.spa_honest.proofs.Base.{eq-eqb, cases_lt, Option, Some, None, Spa, project_of, place, choices_of}
@@ -6,15 +6,17 @@ use Rattle.spa_honest.proofs.Base.{lecturer_of, ranking_of, capacity_of, limit_o
 use Rattle.spa_honest.proofs.Base.{IsBefore, IsAcceptable, IsDistinct, IsLawful, Improves, Wants, IsStable, IsBest}
 use Rattle.spa_honest.proofs.Base.{IsRanked, A, rules, ltb, ◌&&◌, ◌||◌, not, Ordering, list_all, list_any, is_lt}
 use Rattle.spa_honest.proofs.Base.{and_parts, or_cases, ltb-true, get_or_past, TextsRise, get_or-place, blocked}
+use Rattle.std.proofs.Common.{leb}
+use Rattle.std.proofs.lemmas.Bool.{leb-true}
 use Rattle.std.proofs.lemmas.List.Folds.{Any-from_list_any}
 use Rattle.std.proofs.lemmas.List.FromFn.{get_or-range_with_len, length-range_with_len}
 use Rattle.std.proofs.lemmas.List.Kept.{AllPairs-cons}
 use Rattle.std.proofs.lemmas.List.Sums.{AllPass-from_list_all}
 use Rattle.std.specs.List.{range_with_len}
+use Rattle.spa_rows.specs.Limits.{most_lecturers, most_projects, most_students, longest_choice, most_places}
 use Rattle.spa_model.proofs.Lawful.{at_on}
 use Rattle.spa_honest.proofs.Base.{◌⊎◌, ◌∙◌, IsMatching, IsAsGood, IsTaken, IsBusy, is_project, is_lecturer, lt-ltb, ne_eqb, student_in_range, is_project-at}
 use Rattle.spa_model.proofs.Counts.{count_by-none, off_project}
-use Rattle.spa_honest.proofs.Exists.{best_of}
 use Rattle.spa_honest.proofs.Explained.{stable_so}
 
 -- ---- tests of numbers and of lists
@@ -65,7 +67,8 @@ pairs : {X : Type 0} (test : X → X → Bool) (R : X → X → Type 0) → ((a 
 pairs test R sound [] h i j d less low = absurd (omega arith)
 pairs test R sound (x ∷ xs) h i j d less low =
     let both = and_parts (list_all (test x) xs) (pairwise test xs) h in
-    AllPairs-cons R x xs (λ k e h. sound x (get_or xs k e) (AllPass-from_list_all (test x) xs both.0 k e h)) (pairs test R sound xs both.1) i j d less low
+    AllPairs-cons R x xs (λ k e h. sound x (get_or xs k e) (AllPass-from_list_all (test x) xs both.0 k e h))
+    (pairs test R sound xs both.1) i j d less low
 
 abbrev rises : List (List ℕ) → Bool
 rises keys = pairwise (λ a b. is_lt (slice_cmp nat_cmp a b)) keys
@@ -86,7 +89,7 @@ apart = pairs (λ a b. not (eqb a b)) (λ a b. a ≢ b) (λ a b h same. let wron
 -- ---- a lawful instance
 
 abbrev is_in_range : ℕ → Bool
-is_in_range n = ltb 0 n && ltb n 201
+is_in_range n = leb 1 n && leb n most_places
 
 abbrev lawful_tests : Spa → List Bool
 lawful_tests i =
@@ -103,8 +106,8 @@ lawful_tests i =
     ∷ list_all differ i.choices ∷ list_all differ i.rankings
     ∷ each (λ p. is_in_range (capacity_of i p)) (length i.lecturers)
     ∷ each (λ l. is_in_range (limit_of i l)) (length i.rankings)
-    ∷ list_all (λ list. ltb (length list) 21) i.choices
-    ∷ ltb (length i.choices) 2001 ∷ ltb (length i.lecturers) 1001 ∷ ltb (length i.rankings) 301 ∷ []
+    ∷ list_all (λ list. leb (length list) longest_choice) i.choices
+    ∷ leb (length i.choices) most_students ∷ leb (length i.lecturers) most_projects ∷ leb (length i.rankings) most_lecturers ∷ []
 
 pub lawful_by : (i : Spa) → list_all (λ b. b) (lawful_tests i) ≡ true → IsLawful i
 lawful_by i all = record {
@@ -116,27 +119,32 @@ lawful_by i all = record {
   student_keys_rise = rise i.student_keys (passes 5);
   project_keys_rise = rise i.project_keys (passes 6);
   lecturer_keys_rise = rise i.lecturer_keys (passes 7);
-  offered = λ p low. ltb-true (lecturer_of i p) (length i.rankings) (each_at (λ q. ltb (lecturer_of i q) (length i.rankings)) (length i.lecturers) p (passes 8) low);
+  offered = λ p low. ltb-true (lecturer_of i p) (length i.rankings)
+      (each_at (λ q. ltb (lecturer_of i q) (length i.rankings)) (length i.lecturers) p (passes 8) low);
   known = λ s p on. ltb-true p (length i.lecturers) (entry_at (λ _ q. ltb q (length i.lecturers)) i.choices (passes 9) s p on);
   ranked = λ s p on. ltb-true (place (ranking_of i (lecturer_of i p)) s) (length (ranking_of i (lecturer_of i p)))
-      (entry_at (λ t q. ltb (place (ranking_of i (lecturer_of i q)) t) (length (ranking_of i (lecturer_of i q)))) i.choices (passes 10) s p on);
+      (entry_at (λ t q. ltb (place (ranking_of i (lecturer_of i q)) t) (length (ranking_of i (lecturer_of i q)))) i.choices
+      (passes 10) s p on);
   applicants = λ l s on.
-      let any = Any-from_list_any (λ p. eqb (lecturer_of i p) l) (choices_of i s) (entry_at (λ k t. list_any (λ p. eqb (lecturer_of i p) k) (choices_of i t)) i.rankings (passes 11) l s on) in
+      let any = Any-from_list_any (λ p. eqb (lecturer_of i p) l) (choices_of i s)
+      (entry_at (λ k t. list_any (λ p. eqb (lecturer_of i p) k) (choices_of i t)) i.rankings (passes 11) l s on) in
       (any.1, at_on (choices_of i s) any.0 any.1 any.2 any.3, eqb-true (lecturer_of i any.1) l any.4);
   choices_distinct = λ s. apart (choices_of i s) (each_of differ [] i.choices refl (passes 12) s);
   distinct = λ l. apart (ranking_of i l) (each_of differ [] i.rankings refl (passes 13) l);
-  capacities_in_range = λ p low. in_range (capacity_of i p) (each_at (λ q. is_in_range (capacity_of i q)) (length i.lecturers) p (passes 14) low);
+  capacities_in_range = λ p low. in_range (capacity_of i p)
+      (each_at (λ q. is_in_range (capacity_of i q)) (length i.lecturers) p (passes 14) low);
   limits_in_range = λ l low. in_range (limit_of i l) (each_at (λ k. is_in_range (limit_of i k)) (length i.rankings) l (passes 15) low);
-  lists_short = λ s. omega (arith, ltb-true (length (choices_of i s)) 21 (each_of (λ list. ltb (length list) 21) [] i.choices refl (passes 16) s));
-  student_count = omega (arith, ltb-true (length i.choices) 2001 (passes 17));
-  project_count = omega (arith, ltb-true (length i.lecturers) 1001 (passes 18));
-  lecturer_count = omega (arith, ltb-true (length i.rankings) 301 (passes 19));
+  lists_short = λ s. leb-true (length (choices_of i s)) longest_choice
+      (each_of (λ list. leb (length list) longest_choice) [] i.choices refl (passes 16) s);
+  student_count = leb-true (length i.choices) most_students (passes 17);
+  project_count = leb-true (length i.lecturers) most_projects (passes 18);
+  lecturer_count = leb-true (length i.rankings) most_lecturers (passes 19);
 } where
   passes : (k : ℕ) → get_or (lawful_tests i) k true ≡ true
   passes = each_of (λ b. b) true (lawful_tests i) refl all
 
-  in_range : (n : ℕ) → is_in_range n ≡ true → (1 ≤ n) × (n ≤ 200)
-  in_range n h = let both = and_parts (ltb 0 n) (ltb n 201) h in (omega (arith, ltb-true 0 n both.0), omega (arith, ltb-true n 201 both.1))
+  in_range : (n : ℕ) → is_in_range n ≡ true → (1 ≤ n) × (n ≤ most_places)
+  in_range n h = let both = and_parts (leb 1 n) (leb n most_places) h in (leb-true 1 n both.0, leb-true n most_places both.1)
 
 -- ---- the best matching
 
@@ -150,25 +158,13 @@ way : (lists : List (List ℕ)) (test : List (Option ℕ) → Bool) (m : List (O
 way [] test [] h e on = h
 way [] test (o ∷ m) h e on = absurd (omega arith)
 way (list ∷ lists) test [] h e on = absurd (omega arith)
-way (list ∷ lists) test (None ∷ m) h e on = way lists (λ x. test (None ∷ x)) m (and_parts (all_ways lists (λ x. test (None ∷ x))) (list_all (λ p. all_ways lists (λ x. test (Some p ∷ x))) list) h).0 (omega arith) (λ s. on (suc s))
+way (list ∷ lists) test (None ∷ m) h e on =
+    way lists (λ x. test (None ∷ x)) m (and_parts (all_ways lists (λ x. test (None ∷ x)))
+    (list_all (λ p. all_ways lists (λ x. test (Some p ∷ x))) list) h).0 (omega arith) (λ s. on (suc s))
 way (list ∷ lists) test (Some q ∷ m) h e on =
     let others = (and_parts (all_ways lists (λ x. test (None ∷ x))) (list_all (λ p. all_ways lists (λ x. test (Some p ∷ x))) list) h).1 in
-    way lists (λ x. test (Some q ∷ x)) m (entry (λ p. all_ways lists (λ x. test (Some p ∷ x))) list q others (on 0 q refl)) (omega arith) (λ s. on (suc s))
-
-abbrev same : List (Option ℕ) → List (Option ℕ) → Bool
-same [] [] = true
-same (None ∷ m) (None ∷ n) = same m n
-same (Some p ∷ m) (Some q ∷ n) = eqb p q && same m n
-same m n = false
-
-is_same : (m n : List (Option ℕ)) → same m n ≡ true → m ≡ n
-is_same [] [] h = refl
-is_same (None ∷ m) (None ∷ n) h = ap (λ x. None ∷ x) (is_same m n h)
-is_same (Some p ∷ m) (Some q ∷ n) h =
-    let both = and_parts (eqb p q) (same m n) h in
-    let rest : m ≡ n = is_same m n both.1 in
-    cc (eqb-true p q both.0)
-is_same m n h = absurd (cc)
+    way lists (λ x. test (Some q ∷ x)) m (entry (λ p. all_ways lists (λ x. test (Some p ∷ x))) list q others (on 0 q refl)) (omega arith)
+    (λ s. on (suc s))
 
 -- A project has too many students, or a student wants a project that has room or whose lecturer
 -- ranks an assigned student lower.
@@ -187,7 +183,8 @@ has_room i m u = has_place i m u && ltb (at_lecturer i m (lecturer_of i u)) (lim
 
 abbrev yields : Spa → List (Option ℕ) → ℕ → ℕ → ℕ → Option ℕ → Bool
 yields i m s u t None = false
-yields i m s u t (Some p) = (eqb (lecturer_of i u) (lecturer_of i p) && goes_before (ranking_of i (lecturer_of i u)) s t) && (eqb u p || has_place i m u)
+yields i m s u t (Some p) = (eqb (lecturer_of i u) (lecturer_of i p) && goes_before (ranking_of i (lecturer_of i u)) s t)
+    && (eqb u p || has_place i m u)
 
 abbrev blocks : Spa → List (Option ℕ) → ℕ → ℕ → Bool
 blocks i m s u = improves i s u (project_of m s) && (has_room i m u || some (λ t. yields i m s u t (project_of m t)) (length m))
@@ -199,7 +196,8 @@ abbrev has_over : Spa → List (Option ℕ) → ℕ → Bool
 has_over i m l = ltb (limit_of i l) (at_lecturer i m l)
 
 abbrev unstable : Spa → List (Option ℕ) → Bool
-unstable i m = some (is_over i m) (length i.lecturers) || (some (has_over i m) (length i.limits) || some (λ s. list_any (blocks i m s) (choices_of i s)) (length i.choices))
+unstable i m = some (is_over i m) (length i.lecturers) || (some (has_over i m) (length i.limits) || some
+    (λ s. list_any (blocks i m s) (choices_of i s)) (length i.choices))
 
 is_before : (list : List ℕ) (a b : ℕ) → goes_before list a b ≡ true → IsBefore list a b
 is_before list a b h = search (rules, and_parts, ltb-true)
@@ -215,39 +213,38 @@ module _ (i : Spa) (m : List (Option ℕ)) (stable : IsStable i m) where
 
   no_block : (s u : ℕ) → IsAcceptable i s u → blocks i m s u ≡ true → ⊥
   no_block s u on h =
-      let both = and_parts (improves i s u (project_of m s)) (has_room i m u || some (λ t. yields i m s u t (project_of m t)) (length m)) h in
+      let both = and_parts (improves i s u (project_of m s))
+      (has_room i m u || some (λ t. yields i m s u t (project_of m t)) (length m)) h in
       let wants : Wants i m s u = (on, is_better s u (project_of m s) both.0) in
       elim (or_cases (has_room i m u) (some (λ t. yields i m s u t (project_of m t)) (length m)) both.1) [
         | inl room ↦
             let free = and_parts (has_place i m u) (ltb (at_lecturer i m (lecturer_of i u)) (limit_of i (lecturer_of i u))) room in
-            stable.unblocked s u A (wants, ltb-true (at_project m u) (capacity_of i u) free.0, ltb-true (at_lecturer i m (lecturer_of i u)) (limit_of i (lecturer_of i u)) free.1)
-        | inr later ↦ let one = some_at (λ t. yields i m s u t (project_of m t)) (length m) later in no_yield s u one.0 wants (project_of m one.0) refl one.1
+            stable.unblocked s u A (
+              wants,
+              ltb-true (at_project m u) (capacity_of i u) free.0,
+              ltb-true (at_lecturer i m (lecturer_of i u)) (limit_of i (lecturer_of i u)) free.1,
+            )
+        | inr later ↦ let one = some_at (λ t. yields i m s u t (project_of m t)) (length m) later in
+            no_yield s u one.0 wants (project_of m one.0) refl one.1
       ]
 
   not_unstable : unstable i m ≡ true → ⊥
-  not_unstable h = elim (or_cases (some (is_over i m) (length i.lecturers)) (some (has_over i m) (length i.limits) || some (λ s. list_any (blocks i m s) (choices_of i s)) (length i.choices)) h) [
-    | inl over ↦ let one = some_at (is_over i m) (length i.lecturers) over in omega (arith, ltb-true (capacity_of i one.0) (at_project m one.0) one.1, stable.matching.projects one.0)
-    | inr rest ↦ elim (or_cases (some (has_over i m) (length i.limits)) (some (λ s. list_any (blocks i m s) (choices_of i s)) (length i.choices)) rest) [
-      | inl over ↦ let one = some_at (has_over i m) (length i.limits) over in omega (arith, ltb-true (limit_of i one.0) (at_lecturer i m one.0) one.1, stable.matching.lecturers one.0)
-      | inr pair ↦
-          let one = some_at (λ s. list_any (blocks i m s) (choices_of i s)) (length i.choices) pair in
-          let any = Any-from_list_any (blocks i m one.0) (choices_of i one.0) one.1 in
-          no_block one.0 any.1 (at_on (choices_of i one.0) any.0 any.1 any.2 any.3) any.4
-    ]
-  ]
+  not_unstable h = elim (or_cases (some (is_over i m) (length i.lecturers))
+      (some (has_over i m) (length i.limits) || some (λ s. list_any (blocks i m s) (choices_of i s)) (length i.choices)) h) [
+        | inl over ↦ let one = some_at (is_over i m) (length i.lecturers) over in
+            omega (arith, ltb-true (capacity_of i one.0) (at_project m one.0) one.1, stable.matching.projects one.0)
+        | inr rest ↦ elim (or_cases (some (has_over i m) (length i.limits))
+            (some (λ s. list_any (blocks i m s) (choices_of i s)) (length i.choices)) rest) [
+              | inl over ↦ let one = some_at (has_over i m) (length i.limits) over in
+                  omega (arith, ltb-true (limit_of i one.0) (at_lecturer i m one.0) one.1, stable.matching.lecturers one.0)
+              | inr pair ↦
+                  let one = some_at (λ s. list_any (blocks i m s) (choices_of i s)) (length i.choices) pair in
+                  let any = Any-from_list_any (blocks i m one.0) (choices_of i one.0) one.1 in
+                  no_block one.0 any.1 (at_on (choices_of i one.0) any.0 any.1 any.2 any.3) any.4
+            ]
+      ]
 
--- where each other way is unstable, the matching is the best one
-pub best_by : (i : Spa) → IsRanked i → (m : List (Option ℕ)) → all_ways i.choices (λ n. same n m || unstable i n) ≡ true
-    → IsBest i m
-best_by i law m all =
-    let one = best_of i law in
-    let stable : IsStable i one.0 = one.1.stable in
-    elim (or_cases (same one.0 m) (unstable i one.0) (way i.choices (λ n. same n m || unstable i n) one.0 all stable.matching.students stable.matching.acceptable)) [
-      | inl is ↦ subst (IsBest i) (is_same one.0 m is) one.1
-      | inr not_so ↦ absurd (not_unstable i one.0 stable not_so)
-    ]
-
--- ---- a stable matching, where others may be too
+-- ---- a stable matching
 
 abbrev is_listed : Spa → ℕ → Option ℕ → Bool
 is_listed i s None = true
@@ -257,7 +254,8 @@ abbrev ranks_before : Spa → ℕ → ℕ → (Option ℕ → Bool) → Option �
 ranks_before i l s test o t = not (test o) || goes_before (ranking_of i l) t s
 
 abbrev is_taken : Spa → List (Option ℕ) → ℕ → ℕ → Bool
-is_taken i m s p = eqb (at_project m p) (capacity_of i p) && each (λ t. ranks_before i (lecturer_of i p) s (is_project p) (project_of m t) t) (length m)
+is_taken i m s p = eqb (at_project m p) (capacity_of i p)
+    && each (λ t. ranks_before i (lecturer_of i p) s (is_project p) (project_of m t) t) (length m)
 
 abbrev is_busy : Spa → List (Option ℕ) → ℕ → ℕ → Bool
 is_busy i m s l = eqb (at_lecturer i m l) (limit_of i l) && each (λ t. ranks_before i l s (is_lecturer i l) (project_of m t) t) (length m)
@@ -278,15 +276,18 @@ module _ (i : Spa) (law : IsRanked i) (m : List (Option ℕ)) (all : list_all (�
   passed = each_of (λ b. b) true (stable_tests i m) refl all
 
   listed : (s p : ℕ) → project_of m s ≡ Some p → IsAcceptable i s p
-  listed s p e = by_own (project_of m s) e (each_at (λ t. is_listed i t (project_of m t)) (length m) s (passed 1) (student_in_range i m s p e))
+  listed s p e = by_own (project_of m s) e
+      (each_at (λ t. is_listed i t (project_of m t)) (length m) s (passed 1) (student_in_range i m s p e))
     where
       by_own : (o : Option ℕ) → o ≡ Some p → is_listed i s o ≡ true → IsAcceptable i s p
       by_own None e h = absurd (cc)
-      by_own (Some q) e h = let same : q ≡ p = cc in subst (IsAcceptable i s) same (ltb-true (place (choices_of i s) q) (length (choices_of i s)) h)
+      by_own (Some q) e h = let same : q ≡ p = cc in
+          subst (IsAcceptable i s) same (ltb-true (place (choices_of i s) q) (length (choices_of i s)) h)
 
   -- nobody has an unknown project, or is with an unknown lecturer
   none_at : (p : ℕ) → length i.lecturers ≤ p → at_project m p ≡ 0
-  none_at p past = count_by-none (is_project p) m (λ s. off_project p (project_of m s) (λ e. omega (arith, past, law.known s p (listed s p e))))
+  none_at p past = count_by-none (is_project p) m
+      (λ s. off_project p (project_of m s) (λ e. omega (arith, past, law.known s p (listed s p e))))
 
   none_with : (l : ℕ) → length i.rankings ≤ l → at_lecturer i m l ≡ 0
   none_with l past = count_by-none (is_lecturer i l) m (λ s. by_own s (project_of m s) refl)
@@ -300,11 +301,19 @@ module _ (i : Spa) (law : IsRanked i) (m : List (Option ℕ)) (all : list_all (�
     students = eqb-true (length m) (length i.choices) (passed 0);
     acceptable = listed;
     projects = λ p. elim (cases_lt p (length i.lecturers)) [
-      | inl low ↦ omega (arith, ltb-true (at_project m p) (suc (capacity_of i p)) (each_at (λ q. ltb (at_project m q) (suc (capacity_of i q))) (length i.lecturers) p (passed 2) low))
+      | inl low ↦ omega (
+        arith,
+        ltb-true (at_project m p) (suc (capacity_of i p))
+            (each_at (λ q. ltb (at_project m q) (suc (capacity_of i q))) (length i.lecturers) p (passed 2) low),
+      )
       | inr past ↦ omega (arith, none_at p past)
     ];
     lecturers = λ l. elim (cases_lt l (length i.rankings)) [
-      | inl low ↦ omega (arith, ltb-true (at_lecturer i m l) (suc (limit_of i l)) (each_at (λ h. ltb (at_lecturer i m h) (suc (limit_of i h))) (length i.rankings) l (passed 3) low))
+      | inl low ↦ omega (
+        arith,
+        ltb-true (at_lecturer i m l) (suc (limit_of i l))
+            (each_at (λ h. ltb (at_lecturer i m h) (suc (limit_of i h))) (length i.rankings) l (passed 3) low),
+      )
       | inr past ↦ omega (arith, none_with l past)
     ];
   }
@@ -312,28 +321,35 @@ module _ (i : Spa) (law : IsRanked i) (m : List (Option ℕ)) (all : list_all (�
   -- who passes the test is ranked before
   ranked_before : (l s t : ℕ) (test : Option ℕ → Bool) → each (λ x. ranks_before i l s test (project_of m x) x) (length m) ≡ true
       → t < length m → test (project_of m t) ≡ true → IsBefore (ranking_of i l) t s
-  ranked_before l s t test h low on = elim (or_cases (not (test (project_of m t))) (goes_before (ranking_of i l) t s) (each_at (λ x. ranks_before i l s test (project_of m x) x) (length m) t h low)) [
-    | inl not_so ↦ absurd (let wrong : not true ≡ true = rw on at not_so in cc)
-    | inr before ↦ is_before (ranking_of i l) t s before
-  ]
+  ranked_before l s t test h low on = elim
+      (or_cases (not (test (project_of m t))) (goes_before (ranking_of i l) t s)
+      (each_at (λ x. ranks_before i l s test (project_of m x) x) (length m) t h low)) [
+        | inl not_so ↦ absurd (let wrong : not true ≡ true = rw on at not_so in cc)
+        | inr before ↦ is_before (ranking_of i l) t s before
+      ]
 
   reason : (s p : ℕ) → Wants i m s p → IsTaken i m p s ⊎ IsBusy i m (lecturer_of i p) s
   reason s p wants =
       let l : ℕ = lecturer_of i p in
-      elim (or_cases (not (improves i s p (project_of m s))) (is_taken i m s p || is_busy i m s l) (entry_at (is_content i m) i.choices (passed 4) s p wants.0)) [
+      elim (or_cases (not (improves i s p (project_of m s))) (is_taken i m s p || is_busy i m s l)
+      (entry_at (is_content i m) i.choices (passed 4) s p wants.0)) [
         | inl content ↦ absurd (let wrong : not true ≡ true = rw (improving s p (project_of m s) wants.1) at content in cc)
         | inr why ↦ elim (or_cases (is_taken i m s p) (is_busy i m s l) why) [
           | inl taken ↦
-              let both = and_parts (eqb (at_project m p) (capacity_of i p)) (each (λ t. ranks_before i l s (is_project p) (project_of m t) t) (length m)) taken in
+              let both = and_parts (eqb (at_project m p) (capacity_of i p))
+              (each (λ t. ranks_before i l s (is_project p) (project_of m t) t) (length m)) taken in
               inl (record {
                 full = eqb-true (at_project m p) (capacity_of i p) both.0;
-                above = λ t at. ranked_before l s t (is_project p) both.1 (student_in_range i m t p at) (is_project-at p (project_of m t) at);
+                above = λ t at. ranked_before l s t (is_project p) both.1 (student_in_range i m t p at)
+                    (is_project-at p (project_of m t) at);
               })
           | inr busy ↦
-              let both = and_parts (eqb (at_lecturer i m l) (limit_of i l)) (each (λ t. ranks_before i l s (is_lecturer i l) (project_of m t) t) (length m)) busy in
+              let both = and_parts (eqb (at_lecturer i m l) (limit_of i l))
+              (each (λ t. ranks_before i l s (is_lecturer i l) (project_of m t) t) (length m)) busy in
               inr (record {
                 full = eqb-true (at_lecturer i m l) (limit_of i l) both.0;
-                above = λ t own. ranked_before l s t (is_lecturer i l) both.1 (student_in_range i m t own.0 own.1) (ap (is_lecturer i l) own.1 ∙ eq-eqb (lecturer_of i own.0) l own.2);
+                above = λ t own. ranked_before l s t (is_lecturer i l) both.1 (student_in_range i m t own.0 own.1)
+                    (ap (is_lecturer i l) own.1 ∙ eq-eqb (lecturer_of i own.0) l own.2);
               })
         ]
       ]
@@ -351,15 +367,27 @@ as_good i s mine None = true
 as_good i s None (Some q) = false
 as_good i s (Some p) (Some q) = eqb p q || goes_before (choices_of i s) p q
 
-pub best_among : (i : Spa) (m : List (Option ℕ)) → IsStable i m
-    → all_ways i.choices (λ n. each (λ s. as_good i s (project_of m s) (project_of n s)) (length i.choices) || unstable i n) ≡ true
-    → IsBest i m
-best_among i m stable all = record { stable = stable; best = best }
+abbrev is_best : Spa → List (Option ℕ) → Bool
+is_best i m =
+    list_all (λ b. b) (stable_tests i m)
+    && all_ways i.choices (λ n. each (λ s. as_good i s (project_of m s) (project_of n s)) (length i.choices) || unstable i n)
+
+pub best_by : (i : Spa) → IsRanked i → (m : List (Option ℕ)) → is_best i m ≡ true → IsBest i m
+best_by i law m all = record { stable = stable_by i law m both.0; best = best }
   where
+    both : (list_all (λ b. b) (stable_tests i m) ≡ true)
+        × (all_ways i.choices (λ n. each (λ s. as_good i s (project_of m s) (project_of n s)) (length i.choices) || unstable i n) ≡ true)
+    both = and_parts (list_all (λ b. b) (stable_tests i m))
+        (all_ways i.choices (λ n. each (λ s. as_good i s (project_of m s) (project_of n s)) (length i.choices) || unstable i n)) all
+
     so : (s : ℕ) (a b : Option ℕ) → as_good i s a b ≡ true → IsAsGood i s a b
     so s a None h = tt
     so s None (Some q) h = absurd (cc)
-    so s (Some p) (Some q) h = elim (or_cases (eqb p q) (goes_before (choices_of i s) p q) h) [ inl same ↦ inl (eqb-true p q same) | inr before ↦ inr (is_before (choices_of i s) p q before) ]
+    so s (Some p) (Some q) h = elim (or_cases (eqb p q) (goes_before (choices_of i s) p q) h) [
+      | inl same ↦ inl
+          (eqb-true p q same)
+      | inr before ↦ inr (is_before (choices_of i s) p q before)
+    ]
 
     past : (n : List (Option ℕ)) → IsStable i n → (s : ℕ) → length i.choices ≤ s → IsAsGood i s (project_of m s) (project_of n s)
     past n other s out = let none : project_of n s ≡ None = get_or_past n s None (omega (arith, out, other.matching.students)) in rw none tt
@@ -368,8 +396,10 @@ best_among i m stable all = record { stable = stable; best = best }
     best n other s = elim (cases_lt s (length i.choices)) [
       | inr out ↦ past n other s out
       | inl low ↦ elim (or_cases (each (λ t. as_good i t (project_of m t) (project_of n t)) (length i.choices)) (unstable i n)
-          (way i.choices (λ x. each (λ t. as_good i t (project_of m t) (project_of x t)) (length i.choices) || unstable i x) n all other.matching.students other.matching.acceptable)) [
-            | inl good ↦ so s (project_of m s) (project_of n s) (each_at (λ t. as_good i t (project_of m t) (project_of n t)) (length i.choices) s good low)
+          (way i.choices (λ x. each (λ t. as_good i t (project_of m t) (project_of x t)) (length i.choices) || unstable i x) n both.1
+          other.matching.students other.matching.acceptable)) [
+            | inl good ↦ so s (project_of m s) (project_of n s)
+                (each_at (λ t. as_good i t (project_of m t) (project_of n t)) (length i.choices) s good low)
             | inr not_so ↦ absurd (not_unstable i n other not_so)
           ]
     ]

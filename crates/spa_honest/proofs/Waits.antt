@@ -24,6 +24,8 @@ waiting_never_pays i j s p m n lawful law differ best stable left on room =
     adds = record {
       students = length-set n s (Some p);
       keeps = λ t q e. get_or-set_other n s t (Some p) None (λ same. let none : project_of n t ≡ None = rw same left in cc) ∙ e;
-      projects = one_more (at_project n) (at_project (set n s (Some p))) (capacity_of j) p (λ q. omega (arith, put_at_project j n s p in_range left q)) room.0 stable.matching.projects;
-      lecturers = one_more (at_lecturer j n) (at_lecturer j (set n s (Some p))) (limit_of j) (lecturer_of j p) (λ l. omega (arith, put_at_lecturer j n s p in_range left l)) room.1 stable.matching.lecturers;
+      projects = one_more (at_project n) (at_project (set n s (Some p))) (capacity_of j) p
+          (λ q. omega (arith, put_at_project j n s p in_range left q)) room.0 stable.matching.projects;
+      lecturers = one_more (at_lecturer j n) (at_lecturer j (set n s (Some p))) (limit_of j) (lecturer_of j p)
+          (λ l. omega (arith, put_at_lecturer j n s p in_range left l)) room.1 stable.matching.lecturers;
     }

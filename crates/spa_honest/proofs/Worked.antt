@@ -32,10 +32,19 @@ no_better list_of_ann good = elim good [ inl same ↦ omega (arith, same) | inr 
 
 -- with Bells first Ann lets Cem have Kites: one of the group gains
 pub one_may_gain : NobodyGains → ⊥
-one_may_gain nobody = no_better honest_list (nobody (example honest_list) (example safe_list) (ann ∷ cem ∷ []) _ _ honest_lawful safe_lawful differ honest_best safe_best cem (omega arith) kites refl (omega arith))
+one_may_gain nobody = no_better honest_list
+    (nobody (example honest_list) (example safe_list) (ann ∷ cem ∷ []) _ _ honest_lawful safe_lawful differ honest_best safe_best cem
+    (omega arith) kites refl (omega arith))
   where
     differ : DifferInLists (example honest_list) (example safe_list) (IsOn (ann ∷ cem ∷ []))
-    differ = record { students = refl; lecturers = refl; capacities = refl; limits = refl; others = others; orders = λ l a b on_a on_b before. before }
+    differ = record {
+      students = refl;
+      lecturers = refl;
+      capacities = refl;
+      limits = refl;
+      others = others;
+      orders = λ l a b on_a on_b before. before;
+    }
       where
         others : (t : ℕ) → (IsOn (ann ∷ cem ∷ []) t → ⊥)
             → choices_of (example safe_list) t ≡ choices_of (example honest_list) t
@@ -52,17 +61,22 @@ many_lawful : IsLawful (with_room (example (tides ∷ bells ∷ [])) (1 ∷ 1 �
 many_lawful = lawful_by (with_room (example (tides ∷ bells ∷ [])) (1 ∷ 1 ∷ 2 ∷ []) (2 ∷ 1 ∷ [])) refl
 
 few_best : IsBest (example (tides ∷ bells ∷ [])) (Some bells ∷ Some tides ∷ Some kites ∷ [])
-few_best = best_by (example (tides ∷ bells ∷ [])) (ranked_of (example (tides ∷ bells ∷ [])) few_lawful) (Some bells ∷ Some tides ∷ Some kites ∷ []) refl
+few_best = best_by (example (tides ∷ bells ∷ [])) (ranked_of (example (tides ∷ bells ∷ [])) few_lawful)
+    (Some bells ∷ Some tides ∷ Some kites ∷ []) refl
 
 many_best : IsBest (with_room (example (tides ∷ bells ∷ [])) (1 ∷ 1 ∷ 2 ∷ []) (2 ∷ 1 ∷ [])) (Some tides ∷ Some tides ∷ Some bells ∷ [])
-many_best = best_by (with_room (example (tides ∷ bells ∷ [])) (1 ∷ 1 ∷ 2 ∷ []) (2 ∷ 1 ∷ [])) (ranked_of (with_room (example (tides ∷ bells ∷ [])) (1 ∷ 1 ∷ 2 ∷ []) (2 ∷ 1 ∷ [])) many_lawful) (Some tides ∷ Some tides ∷ Some bells ∷ []) refl
+many_best = best_by (with_room (example (tides ∷ bells ∷ [])) (1 ∷ 1 ∷ 2 ∷ []) (2 ∷ 1 ∷ []))
+    (ranked_of (with_room (example (tides ∷ bells ∷ [])) (1 ∷ 1 ∷ 2 ∷ []) (2 ∷ 1 ∷ [])) many_lawful)
+    (Some tides ∷ Some tides ∷ Some bells ∷ []) refl
 
 -- so Cem loses Kites
 pub more_places_may_harm : MorePlacesNeverHarm → ⊥
-more_places_may_harm never = no_better (tides ∷ bells ∷ []) (never (example (tides ∷ bells ∷ [])) (1 ∷ 1 ∷ 2 ∷ []) _ _ few_lawful many_lawful no_fewer few_best many_best cem)
+more_places_may_harm never = no_better (tides ∷ bells ∷ [])
+    (never (example (tides ∷ bells ∷ [])) (1 ∷ 1 ∷ 2 ∷ []) _ _ few_lawful many_lawful no_fewer few_best many_best cem)
   where
     no_fewer : (q : ℕ)
-        → capacity_of (example (tides ∷ bells ∷ [])) q ≤ capacity_of (with_room (example (tides ∷ bells ∷ [])) (1 ∷ 1 ∷ 2 ∷ []) (2 ∷ 1 ∷ [])) q
+        → capacity_of (example (tides ∷ bells ∷ [])) q ≤ capacity_of
+        (with_room (example (tides ∷ bells ∷ [])) (1 ∷ 1 ∷ 2 ∷ []) (2 ∷ 1 ∷ [])) q
     no_fewer zero = omega arith
     no_fewer (suc zero) = omega arith
     no_fewer (suc (suc zero)) = omega arith

@@ -23,7 +23,8 @@ module _ (f : Option ℕ → Bool) (off : f None ≡ false) where
       → count_by f m ≡ one_if (f (project_of m x)) + count_by f (set m x None)
   counted_out m x = elim (cases_lt x (length m)) [
     | inl low ↦ omega (arith, count_by-set f m x None low, ap one_if off)
-    | inr past ↦ let none : project_of m x ≡ None = get_or_past m x None past in omega (arith, ap (λ o. one_if (f o)) none, ap one_if off, ap (count_by f) (set_past m x None past))
+    | inr past ↦ let none : project_of m x ≡ None = get_or_past m x None past in
+        omega (arith, ap (λ o. one_if (f o)) none, ap one_if off, ap (count_by f) (set_past m x None past))
   ]
 
   others_there : (m : List (Option ℕ)) (x t : ℕ) → f (project_of (set m x None) t) ≡ true
@@ -48,7 +49,13 @@ module _ (f : Option ℕ → Bool) (off : f None ≡ false) where
       → count_by f (map g xs) ≤ count_by f (map h xs)
   mapped_less g h [] each = omega arith
   mapped_less g h (x ∷ xs) each =
-      omega (arith, count_by-cons f (g x) (map g xs), count_by-cons f (h x) (map h xs), one_le (f (g x)) (f (h x)) (each 0 (omega arith)), mapped_less g h xs (λ j low. each (suc j) (omega arith)))
+      omega (
+        arith,
+        count_by-cons f (g x) (map g xs),
+        count_by-cons f (h x) (map h xs),
+        one_le (f (g x)) (f (h x)) (each 0 (omega arith)),
+        mapped_less g h xs (λ j low. each (suc j) (omega arith)),
+      )
 
   -- a list without repeats counts nobody twice
   pub few_of : (xs : List ℕ) (m : List (Option ℕ)) → IsDistinct xs → count_by f (map (project_of m) xs) ≤ count_by f m
@@ -59,7 +66,9 @@ module _ (f : Option ℕ → Bool) (off : f None ≡ false) where
         arith,
         count_by-cons f (project_of m x) (map (project_of m) xs),
         counted_out m x,
-        mapped_less (project_of m) (project_of out) xs (λ j low on. ap f (get_or-set_other m x (get_or xs j 0) None None (λ same. apart 0 (suc j) 0 (omega arith) (omega (arith, low)) (sym same))) ∙ on),
+        mapped_less (project_of m) (project_of out) xs
+            (λ j low on. ap f (get_or-set_other m x (get_or xs j 0) None None
+            (λ same. apart 0 (suc j) 0 (omega arith) (omega (arith, low)) (sym same))) ∙ on),
         few_of xs out (λ a b d less low. apart (suc a) (suc b) d (omega (arith, less)) (omega (arith, low))),
       )
 
@@ -96,13 +105,15 @@ module _ (i : Spa) (lawful : IsLawful i) (m n : List (Option ℕ)) (best : IsBes
   before_first j t low before =
       let short : j < k = omega (arith, low, length-take k (ranking_of i l)) in
       let long : j < length (ranking_of i l) = omega (arith, low, length-take k (ranking_of i l)) in
-      let at : place (ranking_of i l) (get_or firsts j 0) ≤ j = rw (get_or-take k (ranking_of i l) j 0 short) (place-get_or-le (ranking_of i l) j 0 long) in
+      let at : place (ranking_of i l) (get_or firsts j 0) ≤ j =
+      rw (get_or-take k (ranking_of i l) j 0 short) (place-get_or-le (ranking_of i l) j 0 long) in
       on_take k (ranking_of i l) t (omega (arith, before.0, at)) (omega (arith, before))
 
   known : (x : List (Option ℕ)) → IsStable i x → (j q : ℕ) → project_of (theirs x) j ≡ Some q → q < length i.lecturers
   known x sound j q e =
       let low : j < length firsts = omega (arith, student_in_range i (theirs x) j q e, length-map {B = Option ℕ} firsts (project_of x)) in
-      lawful.known (get_or firsts j 0) q (sound.matching.acceptable (get_or firsts j 0) q (sym (get_or-map (project_of x) firsts j 0 None low) ∙ e))
+      lawful.known (get_or firsts j 0) q (sound.matching.acceptable (get_or firsts j 0) q
+      (sym (get_or-map (project_of x) firsts j 0 None low) ∙ e))
 
   few : (f : Option ℕ → Bool) → f None ≡ false → count_by f (theirs m) ≤ count_by f m
   few f off = few_of f off firsts m (take_distinct k (ranking_of i l) (lawful.distinct l))
@@ -112,16 +123,23 @@ module _ (i : Spa) (lawful : IsLawful i) (m n : List (Option ℕ)) (best : IsBes
       let at = more_at i l (theirs m) (theirs n) (known m best.stable) (known n stable) fewer in
       let u : ℕ = at.0 in
       let one = one_there i (theirs m) (theirs n) u (length-map firsts (project_of m) ∙ sym (length-map firsts (project_of n))) at.2 in
-      let low : one.0 < length firsts = omega (arith, student_in_range i (theirs m) one.0 u one.1, length-map {B = Option ℕ} firsts (project_of m)) in
+      let low : one.0 < length firsts = omega (
+        arith,
+        student_in_range i (theirs m) one.0 u one.1,
+        length-map {B = Option ℕ} firsts (project_of m),
+      ) in
       let s : ℕ = get_or firsts one.0 0 in
       let has : project_of m s ≡ Some u = sym (get_or-map (project_of m) firsts one.0 0 None low) ∙ one.1 in
-      let wants : Wants i n s u = wants_best i n s u (best.stable.matching.acceptable s u has) (λ e. one.2 (get_or-map (project_of n) firsts one.0 0 None low ∙ e)) (project_of n s) refl (subst (λ o. IsAsGood i s o (project_of n s)) has (best.best n stable s)) in
+      let wants : Wants i n s u = wants_best i n s u (best.stable.matching.acceptable s u has)
+      (λ e. one.2 (get_or-map (project_of n) firsts one.0 0 None low ∙ e)) (project_of n s) refl
+      (subst (λ o. IsAsGood i s o (project_of n s)) has (best.best n stable s)) in
       elim (why_not i n s u wants (ranked_of i lawful) stable) [
         | inl taken ↦ omega (
           arith,
           at.2,
           taken.full,
-          all_of (is_project u) refl firsts n (λ t on. before_first one.0 t low (rw at.1 at (taken.above t (project_from_test u (project_of n t) on)))),
+          all_of (is_project u) refl firsts n (λ t on. before_first one.0 t low
+              (rw at.1 at (taken.above t (project_from_test u (project_of n t) on)))),
           few (is_project u) refl,
           best.stable.matching.projects u,
         )
@@ -129,7 +147,8 @@ module _ (i : Spa) (lawful : IsLawful i) (m n : List (Option ℕ)) (best : IsBes
           arith,
           fewer,
           rw at.1 at busy.full,
-          all_of (is_lecturer i l) refl firsts n (λ t on. before_first one.0 t low (rw at.1 at (busy.above t (is_with t u at.1 (project_of n t) refl on)))),
+          all_of (is_lecturer i l) refl firsts n (λ t on. before_first one.0 t low
+              (rw at.1 at (busy.above t (is_with t u at.1 (project_of n t) refl on)))),
           few (is_lecturer i l) refl,
           best.stable.matching.lecturers l,
         )
@@ -143,7 +162,12 @@ module _ (i : Spa) (lawful : IsLawful i) (m n : List (Option ℕ)) (best : IsBes
   no_fewer : first_with i m l k ≤ first_with i n l k
   no_fewer = elim (cases_lt (at_lecturer i (theirs n) l) (at_lecturer i (theirs m) l)) [
     | inl fewer ↦ absurd (not_fewer fewer)
-    | inr most ↦ omega (arith, most, count_by-map (is_lecturer i l) (project_of m) firsts, count_by-map (is_lecturer i l) (project_of n) firsts)
+    | inr most ↦ omega (
+      arith,
+      most,
+      count_by-map (is_lecturer i l) (project_of m) firsts,
+      count_by-map (is_lecturer i l) (project_of n) firsts,
+    )
   ]
 
 pub lecturers_worst : (i : Spa) (m n : List (Option ℕ)) (l : ℕ) → IsLawful i → IsBest i m → IsStable i n

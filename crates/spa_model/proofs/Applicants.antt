@@ -42,13 +42,16 @@ least_same P Q None f g h = λ r q. h r (g r q)
 least_same P Q (Some b) f g h = (f b h.0, λ r q. h.1 r (g r q))
 
 -- one more student
-pub misses_more : (lines : List Lines.LecturerWithList) (lecturers : List Lecturer) (projects : List Project) (students : List Student) (n : ℕ) (a b : Option ℕ)
+pub misses_more : (lines : List Lines.LecturerWithList) (lecturers : List Lecturer) (projects : List Project) (students : List Student)
+    (n : ℕ) (a b : Option ℕ)
     → IsLeastOf (MissesBelow lines lecturers projects students n) a
     → IsLeastOf (Misses lines lecturers projects (choices_at students n) n) b
     → IsLeastOf (MissesBelow lines lecturers projects students (n + 1)) (lesser_row a b)
 misses_more lines lecturers projects students n a b before here =
-    least_same (λ r. MissesBelow lines lecturers projects students n r ⊎ Misses lines lecturers projects (choices_at students n) n r) (MissesBelow lines lecturers projects students (n + 1)) (lesser_row a b) join part
-    (least_either (MissesBelow lines lecturers projects students n) (Misses lines lecturers projects (choices_at students n) n) a b before here)
+    least_same (λ r. MissesBelow lines lecturers projects students n r ⊎ Misses lines lecturers projects (choices_at students n) n r)
+    (MissesBelow lines lecturers projects students (n + 1)) (lesser_row a b) join part
+    (least_either (MissesBelow lines lecturers projects students n)
+    (Misses lines lecturers projects (choices_at students n) n) a b before here)
   where
     join : (r : ℕ)
         → MissesBelow lines lecturers projects students n r ⊎ Misses lines lecturers projects (choices_at students n) n r
@@ -69,12 +72,14 @@ pub rank_read : (projects : List Project) (lecturers : List Lecturer) (p s : ℕ
     → lecturer ≡ get_or lecturers project.lecturer lecturer → s < length lecturer.ranks.items
     → rank ≡ get_or lecturer.ranks.items s rank → rank_at lecturers (lecturer_of_row projects p) s ≡ rank
 rank_read projects lecturers p s project lecturer rank h at l is k read =
-    ap (λ n. rank_at lecturers n s) (lecturer_here projects p project h at) ∙ rank_here lecturers project.lecturer s lecturer l is ∙ get_or_default lecturer.ranks.items s None rank k ∙ sym read
+    ap (λ n. rank_at lecturers n s) (lecturer_here projects p project h at) ∙ rank_here lecturers project.lecturer s lecturer l is
+    ∙ get_or_default lecturer.ranks.items s None rank k ∙ sym read
 
 pub row_read : (projects : List Project) (lines : List Lines.LecturerWithList) (p : ℕ) (project : Project) (line : Lines.LecturerWithList)
     → p < length projects → project ≡ get_or projects p project → project.lecturer < length lines
     → line ≡ get_or lines project.lecturer line → row_at lines (lecturer_of_row projects p) ≡ line.row
-row_read projects lines p project line h at l is = ap (row_at lines) (lecturer_here projects p project h at) ∙ row_here lines project.lecturer line l is
+row_read projects lines p project line h at l is = ap (row_at lines) (lecturer_here projects p project h at)
+    ∙ row_here lines project.lecturer line l is
 
 pub none_iff : (o : Option ℕ) (b : Bool) → is_some o ≡ not b → (IsTrue b ↔ (o ≡ None))
 none_iff None true e = (λ _. refl, λ _. refl)

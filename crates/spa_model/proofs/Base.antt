@@ -51,6 +51,7 @@ pub use Rattle.spa_rows.proofs.LeastRow.{alike, least_all, least_step, least_eit
 pub use Rattle.spa_rows.proofs.Lists.{at_place, map_at}
 pub use Rattle.spa_rows.specs.Faults.{HasFault, HasNoneBefore, IsKeyOf, IsRefusal, NamesNone, Repeats, BadAt, BadBelow}
 pub use Rattle.spa_rows.specs.Faults.{IsEarlierKey, IsBadCapacity, FindsOne, IsApplicant}
+pub use Rattle.spa_rows.specs.Limits.{most_lecturers, most_projects, most_students, longest_choice, most_places}
 pub use Rattle.spa_rows.specs.Lines.{Pair, Rows, Text, is_key}
 pub use Rattle.spa_rows.specs.declared.faults.InstanceFault.TheVariants.{ApplicantMissing, BadCapacity, BadKey}
 pub use Rattle.spa_rows.specs.declared.faults.InstanceFault.TheVariants.{KeyTwice, ListTooLong, Memory, NoSuchLecturer}

@@ -51,7 +51,13 @@ count_by-lt p [] (y ∷ n) j e h l off on = absurd (omega arith)
 count_by-lt p (x ∷ m) (y ∷ n) zero e h l off on =
     omega (arith, count_by-cons p x m, count_by-cons p y n, ap one_if off, ap one_if on, count_by-le p m n (omega arith) (λ s. h (suc s)))
 count_by-lt p (x ∷ m) (y ∷ n) (suc j) e h l off on =
-    omega (arith, count_by-cons p x m, count_by-cons p y n, one_le (p x) (p y) (h 0), count_by-lt p m n j (omega arith) (λ s. h (suc s)) (omega arith) off on)
+    omega (
+      arith,
+      count_by-cons p x m,
+      count_by-cons p y n,
+      one_le (p x) (p y) (h 0),
+      count_by-lt p m n j (omega arith) (λ s. h (suc s)) (omega arith) off on,
+    )
 
 -- the sum of f at each number below n
 abbrev pub sum_below : (ℕ → ℕ) → ℕ → ℕ
@@ -120,5 +126,6 @@ at_lecturer-sum i l n [] h = sym (sum_below-zero _ n (λ k _. cond_zero (eqb (le
 at_lecturer-sum i l n (o ∷ m) h =
     let first : ℕ → ℕ = λ p. cond (eqb (lecturer_of i p) l) (one_if (is_project p o)) 0 in
     let split : sum_below (share i (o ∷ m) l) n ≡ sum_below first n + sum_below (share i m l) n =
-    sum_below-same (share i (o ∷ m) l) (λ p. first p + share i m l p) n (λ p. cond_add (eqb (lecturer_of i p) l) _ _ _ (count_by-cons (is_project p) o m)) ∙ sum_below-add first (share i m l) n in
+    sum_below-same (share i (o ∷ m) l) (λ p. first p + share i m l p) n
+    (λ p. cond_add (eqb (lecturer_of i p) l) _ _ _ (count_by-cons (is_project p) o m)) ∙ sum_below-add first (share i m l) n in
     omega (arith, split, one_share i l n o (h 0), at_lecturer-sum i l n m (λ s. h (suc s)), count_by-cons (is_lecturer i l) o m)

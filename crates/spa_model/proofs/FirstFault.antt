@@ -7,7 +7,9 @@ use Rattle.spa_model.specs.declared.matching.MatchingFault.TheVariants.{Memory}
 
 -- the fault with a number
 abbrev pub fault_of : ℕ → MatchingFault
-fault_of n = cond (eqb n 1) NoSuchStudent (cond (eqb n 2) NoSuchProject (cond (eqb n 3) NotAcceptable (cond (eqb n 4) StudentTwice (cond (eqb n 5) ProjectOver (cond (eqb n 6) LecturerOver Memory)))))
+fault_of n = cond (eqb n 1) NoSuchStudent
+    (cond (eqb n 2) NoSuchProject (cond (eqb n 3) NotAcceptable
+    (cond (eqb n 4) StudentTwice (cond (eqb n 5) ProjectOver (cond (eqb n 6) LecturerOver Memory)))))
 
 pub fault_of-number : (f : MatchingFault) → fault_of (number_of_pair_fault f) ≡ f
 fault_of-number NoSuchStudent = refl

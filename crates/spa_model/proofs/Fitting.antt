@@ -32,7 +32,8 @@ at_lecturer-past i m l lawful acceptable past = count_by-none (is_lecturer i l) 
   where
     other : (s : ℕ) (o : Option ℕ) → project_of m s ≡ o → is_lecturer i l o ≡ false
     other s None e = refl
-    other s (Some q) e = let known : lecturer_of i q < length i.rankings = lawful.offered q (lawful.known s q (acceptable s q e)) in ne_eqb (lecturer_of i q) l (λ same. omega arith)
+    other s (Some q) e = let known : lecturer_of i q < length i.rankings = lawful.offered q (lawful.known s q (acceptable s q e)) in
+        ne_eqb (lecturer_of i q) l (λ same. omega arith)
 
 -- no project is over capacity where none of those that are there is
 pub projects_all : (i : Spa) (m : List (Option ℕ)) → IsLawful i → AreAcceptable i m

@@ -44,10 +44,13 @@ key_number key lines n x h at = (omega (arith, length-map lines key), map_at key
 pub known : {X : Type 0} (key : X → Text) (lines : List X) (text : Text) → ((IsKeyOf lines key text → ⊥) → ⊥)
     → IsKeyOf lines key text
 known key lines text some = elim (cases_Bool (list_any (λ x. bytes_eq (key x) text) lines)) [
-  | inl pass ↦ let any = Any-from_list_any (λ x. bytes_eq (key x) text) lines pass in (any.0, any.1, any.2, any.3, (bytes_eq-Decides (key any.1) text).0 any.4)
-  | inr fail ↦ absurd (some (λ (k, x, h, at, same). false≢true (sym fail ∙ list_any-from_Any (λ y. bytes_eq (key y) text) lines (k, x, h, at, (bytes_eq-Decides (key x) text).1 same))))
+  | inl pass ↦ let any = Any-from_list_any (λ x. bytes_eq (key x) text) lines pass in
+      (any.0, any.1, any.2, any.3, (bytes_eq-Decides (key any.1) text).0 any.4)
+  | inr fail ↦ absurd (some (λ (k, x, h, at, same). false≢true
+      (sym fail ∙ list_any-from_Any (λ y. bytes_eq (key y) text) lines (k, x, h, at, (bytes_eq-Decides (key x) text).1 same))))
 ]
 
 pub all_known : {X : Type 0} (key : X → Text) (lines : List X) (list : List Text) → (NamesNone lines key list → ⊥)
     → AreKeysOf lines key list
-all_known key lines list none k d h = known key lines (get_or list k d) (λ unknown. none (k, get_or list k d, h, get_or_default list k (get_or list k d) d h, unknown))
+all_known key lines list none k d h = known key lines (get_or list k d)
+    (λ unknown. none (k, get_or list k d, h, get_or_default list k (get_or list k d) d h, unknown))

@@ -15,12 +15,15 @@ use Rattle.spa_model.proofs.Numbered
 
 -- who is on a list has a rank
 pub ranked : (list : List ℕ) (s : ℕ) → IsOn list s → rank_in list s ≡ None → ⊥
-ranked list s on none = let test : ltb (place list s) (length list) ≡ true = grind (arith, nat_tests) in let some : rank_in list s ≡ Some (place list s) = rw test refl in cc
+ranked list s on none = let test : ltb (place list s) (length list) ≡ true = grind (arith, nat_tests) in
+    let some : rank_in list s ≡ Some (place list s) = rw test refl in cc
 
 pub unranked : (list : List ℕ) (s : ℕ) → (IsOn list s → ⊥) → rank_in list s ≡ None
 unranked list s off = search (rules, nat_tests)
 
-module _ (rows : Rows) (students : List Student) (projects : List Project) (lecturers : List Lecturer) (so : AreNumbered rows students projects) (lists : AllZip (IsLecturerOf (keys_of_students rows.students)) rows.lecturers lecturers) where
+module _ (rows : Rows) (students : List Student) (projects : List Project) (lecturers : List Lecturer)
+    (so : AreNumbered rows students projects)
+    (lists : AllZip (IsLecturerOf (keys_of_students rows.students)) rows.lecturers lecturers) where
   pub lecturer_count : length lecturers ≡ length rows.lecturers
   lecturer_count = AllZip-long (IsLecturerOf (keys_of_students rows.students)) rows.lecturers lecturers lists
 
@@ -31,7 +34,8 @@ module _ (rows : Rows) (students : List Student) (projects : List Project) (lect
       let row = at_place lecturers l (omega (arith, lecturer_count)) in
       (row.0, row.1, rw (at, row.1) at (zip_at (IsLecturerOf (keys_of_students rows.students)) rows.lecturers lecturers l y row.0 h lists))
 
-  module _ (y : Lines.LecturerWithList) (z : Lecturer) (is_z : IsLecturerOf (keys_of_students rows.students) y z) (s : ℕ) (x : Lines.StudentWithList) (low : s < length rows.students) (is_x : get_or rows.students s x ≡ x) where
+  module _ (y : Lines.LecturerWithList) (z : Lecturer) (is_z : IsLecturerOf (keys_of_students rows.students) y z) (s : ℕ)
+      (x : Lines.StudentWithList) (low : s < length rows.students) (is_x : get_or rows.students s x ≡ x) where
     key_x : HasKey (keys_of_students rows.students) s x.key
     key_x = key_number (λ q. q.key) rows.students s x low is_x
 
@@ -41,23 +45,35 @@ module _ (rows : Rows) (students : List Student) (projects : List Project) (lect
     -- on the list of texts, on the list of numbers
     pub on_number : Any (λ text. text ≡ x.key) y.list → IsOn z.ranking.items s
     on_number (i, text, under, is_text, same) =
-        let mine : HasKey (keys_of_students rows.students) (get_or z.ranking.items i 0) (get_or y.list i text) = zip_at (λ t n. HasKey (keys_of_students rows.students) n t) y.list z.ranking.items i text 0 under is_z.ranking in
-        let is_s : get_or z.ranking.items i 0 ≡ s = one_number (keys_of_students rows.students) (get_or z.ranking.items i 0) s x.key so.rise_students (mine.0, mine.1 ∙ is_text ∙ same) key_x in
+        let mine : HasKey (keys_of_students rows.students) (get_or z.ranking.items i 0) (get_or y.list i text) =
+        zip_at (λ t n. HasKey (keys_of_students rows.students) n t) y.list z.ranking.items i text 0 under is_z.ranking in
+        let is_s : get_or z.ranking.items i 0 ≡ s =
+        one_number (keys_of_students rows.students) (get_or z.ranking.items i 0) s x.key so.rise_students
+        (mine.0, mine.1 ∙ is_text ∙ same) key_x in
         omega (arith, long, ap (place z.ranking.items) is_s, place-get_or-le z.ranking.items i 0 (omega (arith, long)))
 
     pub on_text : IsOn z.ranking.items s → Any (λ text. text ≡ x.key) y.list
     on_text on =
         let i : ℕ = place z.ranking.items s in
         let text = at_place y.list i (omega (arith, long)) in
-        let mine : HasKey (keys_of_students rows.students) (get_or z.ranking.items i 0) (get_or y.list i text.0) = zip_at (λ t n. HasKey (keys_of_students rows.students) n t) y.list z.ranking.items i text.0 0 (omega (arith, long)) is_z.ranking in
-        let is_s : get_or z.ranking.items i 0 ≡ s = get_or-place z.ranking.items s 0 on in
-        (i, text.0, omega (arith, long), text.1, sym text.1 ∙ sym mine.1 ∙ ap (λ n. get_or (keys_of_students rows.students) n []) is_s ∙ key_x.1)
+        let mine : HasKey (keys_of_students rows.students) (get_or z.ranking.items i 0) (get_or y.list i text.0) =
+        zip_at (λ t n. HasKey (keys_of_students rows.students) n t) y.list z.ranking.items i text.0 0
+        (omega (arith, long)) is_z.ranking in
+        let is_s : get_or z.ranking.items i 0 ≡ s = get_or-place z.ranking.items s 0 on in (
+          i,
+          text.0,
+          omega (arith, long),
+          text.1,
+          sym text.1 ∙ sym mine.1 ∙ ap (λ n. get_or (keys_of_students rows.students) n []) is_s
+              ∙ key_x.1,
+        )
 
   -- the table's entry
   pub rank_is : (l : ℕ) (y : Lines.LecturerWithList) (z : Lecturer) (s : ℕ) → l < length rows.lecturers
       → get_or lecturers l z ≡ z → IsLecturerOf (keys_of_students rows.students) y z → s < length rows.students
       → rank_at lecturers l s ≡ rank_in z.ranking.items s
-  rank_is l y z s h at is_z low = rank_here lecturers l s z (omega (arith, lecturer_count)) (sym at) ∙ is_z.ranks.each s (omega (arith, length-map rows.students (λ q. q.key)))
+  rank_is l y z s h at is_z low = rank_here lecturers l s z (omega (arith, lecturer_count)) (sym at)
+      ∙ is_z.ranks.each s (omega (arith, length-map rows.students (λ q. q.key)))
 
   -- a student who finds a project of the lecturer and has no place there is missing
   missed : (r s l : ℕ) (x : Lines.StudentWithList) (y : Lines.LecturerWithList) → s < length rows.students
@@ -66,8 +82,25 @@ module _ (rows : Rows) (students : List Student) (projects : List Project) (lect
       → HasFault rows ApplicantMissing r
   missed r s l x y low is_x l_low is_y found row none =
       let z = row_of l y l_low is_y in
-      let off : IsOn z.0.ranking.items s → ⊥ = λ on. ranked z.0.ranking.items s on (sym (rank_is l y z.0 s l_low z.1 z.2 low) ∙ none) in
-      (l, y, l_low, l_low, is_y, sym (row_here rows.lecturers l y l_low (sym is_y)) ∙ row, (s, x, low, is_x, (Numbered.finds_text rows students projects so l y l_low is_y s x low is_x found, λ any. off (on_number y z.0 z.2 s x low is_x any))))
+      let off : IsOn z.0.ranking.items s → ⊥ = λ on. ranked z.0.ranking.items s on (sym (rank_is l y z.0 s l_low z.1 z.2 low) ∙ none) in (
+        l,
+        y,
+        l_low,
+        l_low,
+        is_y,
+        sym (row_here rows.lecturers l y l_low (sym is_y))
+            ∙ row,
+        (
+          s,
+          x,
+          low,
+          is_x,
+          (
+            Numbered.finds_text rows students projects so l y l_low is_y s x low is_x found,
+            λ any. off (on_number y z.0 z.2 s x low is_x any),
+          ),
+        ),
+      )
 
   -- the fault ApplicantMissing, by number
   pub misses_fault : (r : ℕ) → MissesBelow rows.lecturers lecturers projects students (length students) r
@@ -83,9 +116,11 @@ module _ (rows : Rows) (students : List Student) (projects : List Project) (lect
   pub fault_misses : (r : ℕ) → HasFault rows ApplicantMissing r
       → MissesBelow rows.lecturers lecturers projects students (length students) r
   fault_misses r (l, y, a, l_low, is_y, row, (s, x, low, is_x, (finds, off))) =
-      let found : Finds projects (choices_at students s) l = Numbered.finds_number rows students projects so l y l_low is_y s x low is_x finds in
+      let found : Finds projects (choices_at students s) l =
+      Numbered.finds_number rows students projects so l y l_low is_y s x low is_x finds in
       let z = row_of l y l_low is_y in
-      let none : rank_at lecturers l s ≡ None = rank_is l y z.0 s l_low z.1 z.2 low ∙ unranked z.0.ranking.items s (λ on. off (on_text y z.0 z.2 s x low is_x on)) in (
+      let none : rank_at lecturers l s ≡ None = rank_is l y z.0 s l_low z.1 z.2 low
+      ∙ unranked z.0.ranking.items s (λ on. off (on_text y z.0 z.2 s x low is_x on)) in (
         s,
         omega (arith, Numbered.student_count rows students projects so),
         (

@@ -35,7 +35,8 @@ module _ (rows : Rows) (students : List Student) (projects : List Project) (so :
       → AreNumbers (keys_of_projects rows.projects) x.list (choices_at students s)
   choices_numbered s x h at =
       let row = at_place students s (omega (arith, student_count)) in
-      let both : IsStudentOf (keys_of_projects rows.projects) (get_or rows.students s x) (get_or students s row.0) = zip_at (IsStudentOf (keys_of_projects rows.projects)) rows.students students s x row.0 h so.choices in
+      let both : IsStudentOf (keys_of_projects rows.projects) (get_or rows.students s x) (get_or students s row.0) =
+      zip_at (IsStudentOf (keys_of_projects rows.projects)) rows.students students s x row.0 h so.choices in
       rw (choices_here students s row.0 (omega (arith, student_count)) (sym row.1)) (rw (at, row.1) at both).choices
 
   -- the lecturer of a project has the text of the line
@@ -44,14 +45,16 @@ module _ (rows : Rows) (students : List Student) (projects : List Project) (so :
       → HasKey (keys_of_lecturers rows.lecturers) (lecturer_of_row projects p) x.lecturer
   lecturer_numbered p x h at =
       let row = at_place projects p (omega (arith, project_count)) in
-      let both : IsProjectOf (keys_of_lecturers rows.lecturers) (get_or rows.projects p x) (get_or projects p row.0) = zip_at (IsProjectOf (keys_of_lecturers rows.lecturers)) rows.projects projects p x row.0 h so.offers in
+      let both : IsProjectOf (keys_of_lecturers rows.lecturers) (get_or rows.projects p x) (get_or projects p row.0) =
+      zip_at (IsProjectOf (keys_of_lecturers rows.lecturers)) rows.projects projects p x row.0 h so.offers in
       rw (lecturer_here projects p row.0 (omega (arith, project_count)) (sym row.1)) (rw (at, row.1) at both).lecturer
 
   -- a choice is a project
   pub choice_known : (s k p : ℕ) (x : Lines.StudentWithList) → s < length rows.students → get_or rows.students s x ≡ x
       → k < length (choices_at students s) → get_or (choices_at students s) k p ≡ p → p < length rows.projects
   choice_known s k p x h at under is_p =
-      let below : get_or (choices_at students s) k p < length (keys_of_projects rows.projects) = numbers_below (keys_of_projects rows.projects) x.list (choices_at students s) (choices_numbered s x h at) k p under in
+      let below : get_or (choices_at students s) k p < length (keys_of_projects rows.projects) =
+      numbers_below (keys_of_projects rows.projects) x.list (choices_at students s) (choices_numbered s x h at) k p under in
       omega (arith, is_p, length-map rows.projects (λ q. q.key))
 
   -- who offers a project is a lecturer
@@ -69,28 +72,48 @@ module _ (rows : Rows) (students : List Student) (projects : List Project) (so :
         → FindsOne rows x y.key → Finds projects (choices_at students s) l
     finds_number s x h at (k, text, under, is_text, (j, line, j_low, is_line, (key, offers))) =
         let zip : AreNumbers (keys_of_projects rows.projects) x.list (choices_at students s) = choices_numbered s x h at in
-        let long : length (choices_at students s) ≡ length x.list = AllZip-long (λ t n. HasKey (keys_of_projects rows.projects) n t) x.list (choices_at students s) zip in
+        let long : length (choices_at students s)
+        ≡ length x.list = AllZip-long (λ t n. HasKey (keys_of_projects rows.projects) n t) x.list (choices_at students s) zip in
         let p : ℕ = get_or (choices_at students s) k 0 in
-        let mine : HasKey (keys_of_projects rows.projects) p (get_or x.list k text) = zip_at (λ t n. HasKey (keys_of_projects rows.projects) n t) x.list (choices_at students s) k text 0 under zip in
+        let mine : HasKey (keys_of_projects rows.projects) p (get_or x.list k text) =
+        zip_at (λ t n. HasKey (keys_of_projects rows.projects) n t) x.list (choices_at students s) k text 0 under zip in
         let its : HasKey (keys_of_projects rows.projects) j line.key = key_number (λ q. q.key) rows.projects j line j_low is_line in
-        let same : p ≡ j = one_number (keys_of_projects rows.projects) p j text so.rise_projects (mine.0, mine.1 ∙ is_text) (its.0, its.1 ∙ key) in
-        let lecturer : HasKey (keys_of_lecturers rows.lecturers) (lecturer_of_row projects j) line.lecturer = lecturer_numbered j line j_low is_line in
-        let is_l : lecturer_of_row projects j ≡ l = one_number (keys_of_lecturers rows.lecturers) (lecturer_of_row projects j) l y.key so.rise_lecturers (lecturer.0, lecturer.1 ∙ offers) key_y in
+        let same : p ≡ j = one_number (keys_of_projects rows.projects) p j text so.rise_projects (mine.0, mine.1 ∙ is_text)
+        (its.0, its.1 ∙ key) in
+        let lecturer : HasKey (keys_of_lecturers rows.lecturers) (lecturer_of_row projects j) line.lecturer =
+        lecturer_numbered j line j_low is_line in
+        let is_l : lecturer_of_row projects j ≡ l =
+        one_number (keys_of_lecturers rows.lecturers) (lecturer_of_row projects j) l y.key so.rise_lecturers
+        (lecturer.0, lecturer.1 ∙ offers) key_y in
         (k, p, omega arith, get_or_default (choices_at students s) k p 0 (omega arith), ap (lecturer_of_row projects) same ∙ is_l)
 
     pub finds_text : (s : ℕ) (x : Lines.StudentWithList) → s < length rows.students → get_or rows.students s x ≡ x
         → Finds projects (choices_at students s) l → FindsOne rows x y.key
     finds_text s x h at (k, p, under, is_p, offers) =
         let zip : AreNumbers (keys_of_projects rows.projects) x.list (choices_at students s) = choices_numbered s x h at in
-        let long : length (choices_at students s) ≡ length x.list = AllZip-long (λ t n. HasKey (keys_of_projects rows.projects) n t) x.list (choices_at students s) zip in
+        let long : length (choices_at students s)
+        ≡ length x.list = AllZip-long (λ t n. HasKey (keys_of_projects rows.projects) n t) x.list (choices_at students s) zip in
         let text = at_place x.list k (omega arith) in
-        let mine : HasKey (keys_of_projects rows.projects) (get_or (choices_at students s) k p) (get_or x.list k text.0) = zip_at (λ t n. HasKey (keys_of_projects rows.projects) n t) x.list (choices_at students s) k text.0 p (omega arith) zip in
+        let mine : HasKey (keys_of_projects rows.projects) (get_or (choices_at students s) k p) (get_or x.list k text.0) =
+        zip_at (λ t n. HasKey (keys_of_projects rows.projects) n t) x.list (choices_at students s) k text.0 p (omega arith) zip in
         let key_p : HasKey (keys_of_projects rows.projects) p text.0 = rw (is_p, text.1) at mine in
         let known : p < length rows.projects = omega (arith, key_p.0, length-map rows.projects (λ q. q.key)) in
         let line = at_place rows.projects p known in
         let its : HasKey (keys_of_projects rows.projects) p line.0.key = key_number (λ q. q.key) rows.projects p line.0 known line.1 in
-        let lecturer : HasKey (keys_of_lecturers rows.lecturers) (lecturer_of_row projects p) line.0.lecturer = lecturer_numbered p line.0 known line.1 in
-        (k, text.0, omega arith, text.1, (p, line.0, known, line.1, (sym its.1 ∙ key_p.1, sym lecturer.1 ∙ ap (λ n. get_or (keys_of_lecturers rows.lecturers) n []) offers ∙ key_y.1)))
+        let lecturer : HasKey (keys_of_lecturers rows.lecturers) (lecturer_of_row projects p) line.0.lecturer =
+        lecturer_numbered p line.0 known line.1 in (
+          k,
+          text.0,
+          omega arith,
+          text.1,
+          (
+            p,
+            line.0,
+            known,
+            line.1,
+            (sym its.1 ∙ key_p.1, sym lecturer.1 ∙ ap (λ n. get_or (keys_of_lecturers rows.lecturers) n []) offers ∙ key_y.1),
+          ),
+        )
 
     -- the text is an applicant's
     pub applicant_number : (text : Text) → IsApplicant rows y.key text
@@ -111,18 +134,26 @@ module _ (rows : Rows) (students : List Student) (projects : List Project) (so :
   OthersAt r = BadAt rows.lecturers (λ x. x.row) (λ l x. Any (λ text. IsApplicantOf rows.students students projects l text → ⊥) x.list) r
 
   pub others_fault : (r : ℕ) → OthersAt r → HasFault rows NotApplicant r
-  others_fault r (l, y, a, low, at, row, (k, text, under, is_text, none)) = (l, y, a, low, at, row, (k, text, under, is_text, λ yes. none (applicant_number l y low at text yes)))
+  others_fault r (l, y, a, low, at, row, (k, text, under, is_text, none)) =
+      (l, y, a, low, at, row, (k, text, under, is_text, λ yes. none (applicant_number l y low at text yes)))
 
   pub fault_others : (r : ℕ) → HasFault rows NotApplicant r → OthersAt r
-  fault_others r (l, y, a, low, at, row, (k, text, under, is_text, none)) = (l, y, a, low, at, row, (k, text, under, is_text, λ yes. none (applicant_text l y low at text yes)))
+  fault_others r (l, y, a, low, at, row, (k, text, under, is_text, none)) =
+      (l, y, a, low, at, row, (k, text, under, is_text, λ yes. none (applicant_text l y low at text yes)))
 
   -- of a number and of its text
   applicant_same : (l : ℕ) (text : Text) (n : ℕ) → HasNumber rows.students (λ x. x.key) text n
       → IsApplicantOf rows.students students projects l text ↔ IsApplicantNumber students projects l n
   applicant_same l text n has = (
     λ (s, key, finds).
-        let known : n < length rows.students = elim (cases_lt n (length rows.students)) [ inl low ↦ low | inr past ↦ absurd (has.unknown past (is_key_of (λ x. x.key) rows.students s text key)) ] in
-        let same : s ≡ n = one_number (keys_of_students rows.students) s n text so.rise_students key (has_key (λ x. x.key) rows.students n text known (has.known known)) in
+        let known : n < length rows.students = elim
+        (cases_lt n (length rows.students)) [
+          | inl low ↦ low
+          | inr past ↦ absurd
+              (has.unknown past (is_key_of (λ x. x.key) rows.students s text key))
+        ] in
+        let same : s ≡ n = one_number (keys_of_students rows.students) s n text so.rise_students key
+        (has_key (λ x. x.key) rows.students n text known (has.known known)) in
         (omega (arith, student_count), subst (λ m. Finds projects (choices_at students m) l) same finds),
     λ (low, finds).
         let known : n < length rows.students = omega (arith, student_count) in
@@ -132,14 +163,21 @@ module _ (rows : Rows) (students : List Student) (projects : List Project) (so :
   -- the least row of a ranking with a number that is no applicant's
   pub others_numbered : (rankings : List (Vec ℕ Global))
       → AreListNumbers rows.students (λ x. x.key) (λ x. x.list) rows.lecturers rankings → (o : Option ℕ)
-      → IsLeastOf (BadAt rows.lecturers (λ x. x.row) (λ l _. Any (λ n. IsApplicantNumber students projects l n → ⊥) (numbers_at rankings l))) o
+      → IsLeastOf (BadAt rows.lecturers (λ x. x.row)
+      (λ l _. Any (λ n. IsApplicantNumber students projects l n → ⊥) (numbers_at rankings l))) o
       → IsLeastOf OthersAt o
   others_numbered rankings are o least =
       let Has : Lines.LecturerWithList → Vec ℕ Global → Type 0 = λ y own. HaveNumbers rows.students (λ x. x.key) y.list own.items in
-      alike rows.lecturers (λ x. x.row) (λ _ _. ⊤) (λ l _. Any (λ n. IsApplicantNumber students projects l n → ⊥) (numbers_at rankings l)) (λ l x. Any (λ text. IsApplicantOf rows.students students projects l text → ⊥) x.list) (length rows.lecturers) o
+      alike rows.lecturers (λ x. x.row) (λ _ _. ⊤) (λ l _. Any (λ n. IsApplicantNumber students projects l n → ⊥) (numbers_at rankings l))
+      (λ l x. Any (λ text. IsApplicantOf rows.students students projects l text → ⊥) x.list) (length rows.lecturers) o
       (λ l y low at.
       let own = at_place rankings l (omega (arith, AllZip-long Has rows.lecturers rankings are)) in
-      let have : HaveNumbers rows.students (λ x. x.key) (get_or rows.lecturers l y).list (get_or rankings l own.0).items = zip_at Has rows.lecturers rankings l y own.0 low are in
-      let here : numbers_at rankings l ≡ own.0.items = map_at (λ x. x.items) rankings l own.0 [] (omega (arith, AllZip-long Has rows.lecturers rankings are)) own.1 in
-      rw here (zip_any (HasNumber rows.students (λ x. x.key)) (λ text. IsApplicantOf rows.students students projects l text → ⊥) (λ n. IsApplicantNumber students projects l n → ⊥) y.list own.0.items (λ text n has. let same = applicant_same l text n has in (λ none is. none (same.1 is), λ none is. none (same.0 is))) (rw (at, own.1) at have)))
+      let have : HaveNumbers rows.students (λ x. x.key) (get_or rows.lecturers l y).list (get_or rankings l own.0).items =
+      zip_at Has rows.lecturers rankings l y own.0 low are in
+      let here : numbers_at rankings l ≡ own.0.items =
+      map_at (λ x. x.items) rankings l own.0 [] (omega (arith, AllZip-long Has rows.lecturers rankings are)) own.1 in
+      rw here (zip_any (HasNumber rows.students (λ x. x.key)) (λ text. IsApplicantOf rows.students students projects l text → ⊥)
+      (λ n. IsApplicantNumber students projects l n → ⊥) y.list own.0.items
+      (λ text n has. let same = applicant_same l text n has in (λ none is. none (same.1 is), λ none is. none (same.0 is)))
+      (rw (at, own.1) at have)))
       least

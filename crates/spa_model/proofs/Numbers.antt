@@ -20,10 +20,12 @@ pub sorted_rows : {X : Type 0} (key : X → Text) (rows : List X) → TextsRise 
     → IsSortedBy (λ a b. is_lt (slice_cmp nat_cmp (key a) (key b))) rows
 sorted_rows key rows rise k d low high =
     let size = length-map rows key in
-    let less : slice_cmp nat_cmp (get_or (map key rows) k []) (get_or (map key rows) (k + 1) []) ≡ Less = rise k (k + 1) [] (omega arith) (omega arith) in
+    let less : slice_cmp nat_cmp (get_or (map key rows) k []) (get_or (map key rows) (k + 1) [])
+    ≡ Less = rise k (k + 1) [] (omega arith) (omega arith) in
     let here = get_or-map key rows k d [] (omega arith) in
     let next = get_or-map key rows (k + 1) d [] high in
-    ap is_lt (nat_list_cmp_total.antisymm (key (get_or rows (k + 1) d)) (key (get_or rows k d)) ∙ ap ordering_reverse (rw (here, next) at less))
+    ap is_lt (nat_list_cmp_total.antisymm (key (get_or rows (k + 1) d)) (key (get_or rows k d))
+    ∙ ap ordering_reverse (rw (here, next) at less))
 
 not_equal : (a b : Text) (o : Ordering) → slice_cmp nat_cmp a b ≡ o → is_eq o ≡ false → bytes_eq a b ≡ false
 not_equal a b o e f = sym (is_eq-slice_cmp a b) ∙ ap is_eq e ∙ f
@@ -37,10 +39,12 @@ pub number_found : {X : Type 0} (key : X → Text) (rows : List X) (text : Text)
     → n ≡ number_in (map key rows) text
 number_found key rows text n rise h found =
     let size = length-map rows key in
-    let same : bytes_eq (get_or (map key rows) n []) text ≡ true = at_map key rows (λ t. bytes_eq t text ≡ true) n h (λ d. equal (key (get_or rows n d)) text (found d)) in
+    let same : bytes_eq (get_or (map key rows) n []) text
+    ≡ true = at_map key rows (λ t. bytes_eq t text ≡ true) n h (λ d. equal (key (get_or rows n d)) text (found d)) in
     let is_text : get_or (map key rows) n [] ≡ text = (bytes_eq-Decides (get_or (map key rows) n []) text).0 same in
     sym (position_or_len_is (λ t. bytes_eq t text) (map key rows) n [] (omega arith)
-    (λ k below. let less : slice_cmp nat_cmp (get_or (map key rows) k []) (get_or (map key rows) n []) ≡ Less = rise k n [] below (omega arith) in not_equal (get_or (map key rows) k []) text Less (rw is_text at less) refl)
+    (λ k below. let less : slice_cmp nat_cmp (get_or (map key rows) k []) (get_or (map key rows) n [])
+    ≡ Less = rise k n [] below (omega arith) in not_equal (get_or (map key rows) k []) text Less (rw is_text at less) refl)
     (λ _. same))
 
 -- where each row compares as less or greater, there is none
@@ -65,4 +69,8 @@ number_known keys text (k, h, e) = search (rules, true≢false, bytes_eq-Decides
 
 -- a number below the count is that of a key
 pub known_number : (keys : List Text) (text : Text) → number_in keys text < length keys → Contains keys text
-known_number keys text h = (number_in keys text, h, (bytes_eq-Decides (get_or keys (number_in keys text) text) text).0 (passes_at_first (λ t. bytes_eq t text) keys text h))
+known_number keys text h = (
+  number_in keys text,
+  h,
+  (bytes_eq-Decides (get_or keys (number_in keys text) text) text).0 (passes_at_first (λ t. bytes_eq t text) keys text h),
+)

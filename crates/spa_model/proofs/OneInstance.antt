@@ -87,7 +87,8 @@ numbers_one : (keys others : List Text) (ns ms : List ℕ) → keys ≡ others �
     → All (λ n. n < length others) ms → keys_at keys ns ≡ keys_at others ms → ns ≡ ms
 numbers_one keys others ns ms same rise low below e =
     let low_too : All (λ n. n < length keys) ms = subst (λ (ks : List Text). All (λ n. n < length ks) ms) (sym same) below in
-    sym (numbers_back keys ns rise low) ∙ ap (map (number_in keys)) (e ∙ ap (λ ks. keys_at ks ms) (sym same)) ∙ numbers_back keys ms rise low_too
+    sym (numbers_back keys ns rise low) ∙ ap (map (number_in keys)) (e ∙ ap (λ ks. keys_at ks ms) (sym same))
+    ∙ numbers_back keys ms rise low_too
 
 -- what is known of those on a list is known at each place
 pub all_on : (P : ℕ → Type 0) (list : List ℕ) → ((n : ℕ) → IsOn list n → P n) → All P list
@@ -145,8 +146,11 @@ module _ {X : Type 0} (key : X → Text) (lines : List X) (keys : List Text) (lo
       at : (b : Bool) → is_member bytes_eq (map key lines) text ≡ b → Contains (map key lines) text
       at true e = (is_member-Decides bytes_eq-Decides (map key lines) text).0 e
       at false e =
-          let once : IsDistinct bytes_eq (text ∷ map key lines) = IsDistinct-cons bytes_eq text (map key lines) (none_equal text (map key lines) e) (IsDistinct-from_AllPairs bytes_eq-Decides (map key lines) differ) in
-          let more : length (text ∷ map key lines) ≤ length keys = length-le_from_is_member nat_list_eq_equiv (text ∷ map key lines) keys once (λ q h. also (bytes_eq q text) q refl h) in
+          let once : IsDistinct bytes_eq (text ∷ map key lines) =
+          IsDistinct-cons bytes_eq text (map key lines) (none_equal text (map key lines) e)
+          (IsDistinct-from_AllPairs bytes_eq-Decides (map key lines) differ) in
+          let more : length (text ∷ map key lines) ≤ length keys =
+          length-le_from_is_member nat_list_eq_equiv (text ∷ map key lines) keys once (λ q h. also (bytes_eq q text) q refl h) in
           absurd (omega (arith, length-map lines key))
 
 -- keys that rise, and hold each key of others that rise, as many as they are, are these
@@ -174,7 +178,8 @@ module _ (rows : Rows) (i : Spa) (lawful : IsLawful i) (for : StandsFor rows i) 
 
   pub lecturer_there : (k : ℕ) (x : LecturerWithList) → k < length rows.lecturers → get_or rows.lecturers k x ≡ x
       → Contains i.lecturer_keys x.key
-  lecturer_there k x low at = let s = here (StandsLecturer i) rows.lecturers for.lecturers k x low at in known_key i.lecturer_keys s.0 x.key s.1
+  lecturer_there k x low at = let s = here (StandsLecturer i) rows.lecturers for.lecturers k x low at in
+      known_key i.lecturer_keys s.0 x.key s.1
 
   -- what a line says, at the number of its key
   pub student_says : (k : ℕ) (x : StudentWithList) (n : ℕ) → k < length rows.students → get_or rows.students k x ≡ x
@@ -195,7 +200,8 @@ module _ (rows : Rows) (i : Spa) (lawful : IsLawful i) (for : StandsFor rows i) 
 
 module _ (i : Spa) (lawful : IsLawful i) where
   pub choices_below : (s : ℕ) → All (λ p. p < length i.project_keys) (choices_of i s)
-  choices_below s = all_on (λ p. p < length i.project_keys) (choices_of i s) (λ p on. omega (arith, lawful.known s p on, lawful.project_key_rows))
+  choices_below s = all_on (λ p. p < length i.project_keys) (choices_of i s)
+      (λ p on. omega (arith, lawful.known s p on, lawful.project_key_rows))
 
   has_list : (s p : ℕ) → IsOn (choices_of i s) p → s < length i.choices
   has_list s p on = search (rules, get_or_past)
@@ -207,7 +213,8 @@ module _ (i : Spa) (lawful : IsLawful i) where
 
 -- ---- two instances of the same rows
 
-module _ (rows : Rows) (none : HasNoneBefore rows Memory) (i j : Spa) (li : IsLawful i) (fi : StandsFor rows i) (lj : IsLawful j) (fj : StandsFor rows j) where
+module _ (rows : Rows) (none : HasNoneBefore rows Memory) (i j : Spa) (li : IsLawful i) (fi : StandsFor rows i) (lj : IsLawful j)
+    (fj : StandsFor rows j) where
   students_apart : (k : ℕ) (x : StudentWithList) → k < length rows.students → get_or rows.students k x ≡ x
       → IsEarlierKey rows.students (λ y. y.key) k x.key → ⊥
   students_apart k x low at early = none KeyTwice (omega arith) x.row (inr (inr (k, x, low, low, at, refl, early)))
@@ -221,17 +228,20 @@ module _ (rows : Rows) (none : HasNoneBefore rows Memory) (i j : Spa) (li : IsLa
   lecturers_apart k x low at early = none KeyTwice (omega arith) x.row (inl (k, x, low, low, at, refl, early))
 
   same_students : i.student_keys ≡ j.student_keys
-  same_students = keys_one i.student_keys j.student_keys li.student_keys_rise lj.student_keys_rise (fi.student_count ∙ sym fj.student_count) (λ text c.
+  same_students = keys_one i.student_keys j.student_keys li.student_keys_rise lj.student_keys_rise (fi.student_count ∙ sym fj.student_count)
+      (λ text c.
       let x = line_of (λ y. y.key) rows.students j.student_keys fj.student_count students_apart (student_there rows j lj fj) text c in
       subst (Contains i.student_keys) x.4 (student_there rows i li fi x.0 x.1 x.2 x.3))
 
   same_projects : i.project_keys ≡ j.project_keys
-  same_projects = keys_one i.project_keys j.project_keys li.project_keys_rise lj.project_keys_rise (fi.project_count ∙ sym fj.project_count) (λ text c.
+  same_projects = keys_one i.project_keys j.project_keys li.project_keys_rise lj.project_keys_rise (fi.project_count ∙ sym fj.project_count)
+      (λ text c.
       let x = line_of (λ y. y.key) rows.projects j.project_keys fj.project_count projects_apart (project_there rows j lj fj) text c in
       subst (Contains i.project_keys) x.4 (project_there rows i li fi x.0 x.1 x.2 x.3))
 
   same_lecturers : i.lecturer_keys ≡ j.lecturer_keys
-  same_lecturers = keys_one i.lecturer_keys j.lecturer_keys li.lecturer_keys_rise lj.lecturer_keys_rise (fi.lecturer_count ∙ sym fj.lecturer_count) (λ text c.
+  same_lecturers = keys_one i.lecturer_keys j.lecturer_keys li.lecturer_keys_rise lj.lecturer_keys_rise
+      (fi.lecturer_count ∙ sym fj.lecturer_count) (λ text c.
       let x = line_of (λ y. y.key) rows.lecturers j.lecturer_keys fj.lecturer_count lecturers_apart (lecturer_there rows j lj fj) text c in
       subst (Contains i.lecturer_keys) x.4 (lecturer_there rows i li fi x.0 x.1 x.2 x.3))
 
@@ -243,16 +253,19 @@ module _ (rows : Rows) (none : HasNoneBefore rows Memory) (i j : Spa) (li : IsLa
   same_choices : i.choices ≡ j.choices
   same_choices = ext_get_or [] i.choices j.choices (sym li.student_rows ∙ ap length same_students ∙ lj.student_rows) (λ s h.
       let low : s < length i.student_keys = omega (arith, li.student_rows) in
-      let x = line_of (λ y. y.key) rows.students i.student_keys fi.student_count students_apart (student_there rows i li fi) (get_or i.student_keys s []) (own_key i.student_keys s low) in
+      let x = line_of (λ y. y.key) rows.students i.student_keys fi.student_count students_apart (student_there rows i li fi)
+      (get_or i.student_keys s []) (own_key i.student_keys s low) in
       let own = both i.student_keys j.student_keys s x.1.key same_students low x.4 in
-      numbers_one i.project_keys j.project_keys (choices_of i s) (choices_of j s) same_projects li.project_keys_rise (choices_below i li s) (choices_below j lj s)
+      numbers_one i.project_keys j.project_keys (choices_of i s) (choices_of j s) same_projects li.project_keys_rise (choices_below i li s)
+      (choices_below j lj s)
       (student_says rows i li fi x.0 x.1 s x.2 x.3 own.0 ∙ sym (student_says rows j lj fj x.0 x.1 s x.2 x.3 own.1)))
 
   project_at : (p : ℕ) → p < length i.lecturers
       → (capacity_of i p ≡ capacity_of j p) × (get_or i.lecturer_keys (lecturer_of i p) [] ≡ get_or j.lecturer_keys (lecturer_of j p) [])
   project_at p h =
       let low : p < length i.project_keys = omega (arith, li.project_key_rows) in
-      let x = line_of (λ y. y.key) rows.projects i.project_keys fi.project_count projects_apart (project_there rows i li fi) (get_or i.project_keys p []) (own_key i.project_keys p low) in
+      let x = line_of (λ y. y.key) rows.projects i.project_keys fi.project_count projects_apart (project_there rows i li fi)
+      (get_or i.project_keys p []) (own_key i.project_keys p low) in
       let own = both i.project_keys j.project_keys p x.1.key same_projects low x.4 in
       let mine = project_says rows i li fi x.0 x.1 p x.2 x.3 own.0 in
       let others = project_says rows j lj fj x.0 x.1 p x.2 x.3 own.1 in
@@ -264,21 +277,30 @@ module _ (rows : Rows) (none : HasNoneBefore rows Memory) (i j : Spa) (li : IsLa
   same_offers : i.lecturers ≡ j.lecturers
   same_offers = ext_get_or 0 i.lecturers j.lecturers as_many_projects (λ p h.
       let mine : lecturer_of i p < length i.lecturer_keys = omega (arith, li.offered p h, li.lecturer_key_rows) in
-      let others : lecturer_of j p < length j.lecturer_keys = omega (arith, lj.offered p (rw as_many_projects at h), lj.lecturer_key_rows) in
-      let same : get_or j.lecturer_keys (lecturer_of i p) [] ≡ get_or j.lecturer_keys (lecturer_of j p) [] = ap (λ ks. get_or ks (lecturer_of i p) []) (sym same_lecturers) ∙ (project_at p h).1 in
-      one_number j.lecturer_keys (lecturer_of i p) (lecturer_of j p) (get_or j.lecturer_keys (lecturer_of j p) []) lj.lecturer_keys_rise (rw same_lecturers at mine, same) (others, refl))
+      let others : lecturer_of j p < length j.lecturer_keys =
+      omega (arith, lj.offered p (rw as_many_projects at h), lj.lecturer_key_rows) in
+      let same : get_or j.lecturer_keys (lecturer_of i p) []
+      ≡ get_or j.lecturer_keys (lecturer_of j p) [] = ap (λ ks. get_or ks (lecturer_of i p) []) (sym same_lecturers)
+      ∙ (project_at p h).1 in
+      one_number j.lecturer_keys (lecturer_of i p) (lecturer_of j p) (get_or j.lecturer_keys (lecturer_of j p) []) lj.lecturer_keys_rise
+      (rw same_lecturers at mine, same) (others, refl))
 
   same_capacities : i.capacities ≡ j.capacities
-  same_capacities = ext_get_or 0 i.capacities j.capacities (li.project_rows ∙ as_many_projects ∙ sym lj.project_rows) (λ p h. (project_at p (omega (arith, li.project_rows))).0)
+  same_capacities = ext_get_or 0 i.capacities j.capacities (li.project_rows ∙ as_many_projects ∙ sym lj.project_rows)
+      (λ p h. (project_at p (omega (arith, li.project_rows))).0)
 
   lecturer_at : (l : ℕ) → l < length i.rankings → (limit_of i l ≡ limit_of j l) × (ranking_of i l ≡ ranking_of j l)
   lecturer_at l h =
       let low : l < length i.lecturer_keys = omega (arith, li.lecturer_key_rows) in
-      let x = line_of (λ y. y.key) rows.lecturers i.lecturer_keys fi.lecturer_count lecturers_apart (lecturer_there rows i li fi) (get_or i.lecturer_keys l []) (own_key i.lecturer_keys l low) in
+      let x = line_of (λ y. y.key) rows.lecturers i.lecturer_keys fi.lecturer_count lecturers_apart (lecturer_there rows i li fi)
+      (get_or i.lecturer_keys l []) (own_key i.lecturer_keys l low) in
       let own = both i.lecturer_keys j.lecturer_keys l x.1.key same_lecturers low x.4 in
       let mine = lecturer_says rows i li fi x.0 x.1 l x.2 x.3 own.0 in
-      let others = lecturer_says rows j lj fj x.0 x.1 l x.2 x.3 own.1 in
-      (mine.0 ∙ sym others.0, numbers_one i.student_keys j.student_keys (ranking_of i l) (ranking_of j l) same_students li.student_keys_rise (ranking_below i li l) (ranking_below j lj l) (mine.1 ∙ sym others.1))
+      let others = lecturer_says rows j lj fj x.0 x.1 l x.2 x.3 own.1 in (
+        mine.0 ∙ sym others.0,
+        numbers_one i.student_keys j.student_keys (ranking_of i l) (ranking_of j l) same_students li.student_keys_rise
+            (ranking_below i li l) (ranking_below j lj l) (mine.1 ∙ sym others.1),
+      )
 
   as_many_lecturers : length i.rankings ≡ length j.rankings
   as_many_lecturers = sym li.lecturer_key_rows ∙ ap length same_lecturers ∙ lj.lecturer_key_rows
@@ -287,7 +309,18 @@ module _ (rows : Rows) (none : HasNoneBefore rows Memory) (i j : Spa) (li : IsLa
   same_rankings = ext_get_or [] i.rankings j.rankings as_many_lecturers (λ l h. (lecturer_at l h).1)
 
   same_limits : i.limits ≡ j.limits
-  same_limits = ext_get_or 0 i.limits j.limits (li.lecturer_rows ∙ as_many_lecturers ∙ sym lj.lecturer_rows) (λ l h. (lecturer_at l (omega (arith, li.lecturer_rows))).0)
+  same_limits = ext_get_or 0 i.limits j.limits (li.lecturer_rows ∙ as_many_lecturers ∙ sym lj.lecturer_rows)
+      (λ l h. (lecturer_at l (omega (arith, li.lecturer_rows))).0)
 
   pub instance_is_one : i ≡ j
-  instance_is_one = search (rules, same_students, same_choices, same_projects, same_offers, same_capacities, same_lecturers, same_rankings, same_limits)
+  instance_is_one = search (
+    rules,
+    same_students,
+    same_choices,
+    same_projects,
+    same_offers,
+    same_capacities,
+    same_lecturers,
+    same_rankings,
+    same_limits,
+  )

@@ -18,7 +18,8 @@ blocks_wants i m s p B b = b.0
 blocks_wants i m s p C b = b.0
 
 pub best_is_one : (i : Spa) (m n : List (Option ℕ)) → IsBest i m → IsBest i n → m ≡ n
-best_is_one i m n a b = ext_get_or None m n (a.stable.matching.students ∙ sym b.stable.matching.students) (λ s h. each s (project_of m s) (project_of n s) (a.best n b.stable s) (b.best m a.stable s))
+best_is_one i m n a b = ext_get_or None m n (a.stable.matching.students ∙ sym b.stable.matching.students)
+    (λ s h. each s (project_of m s) (project_of n s) (a.best n b.stable s) (b.best m a.stable s))
   where
     each : (s : ℕ) (x y : Option ℕ) → IsAsGood i s x y → IsAsGood i s y x → x ≡ y
     each s None None f g = refl

@@ -21,7 +21,8 @@ by_tests x a b m n k false false f g r h e = r (omega arith) (omega arith)
 -- what stands on a list stands there alone
 pub place-injective : (xs : List ℕ) (a b : ℕ) → place xs a < length xs → place xs a ≡ place xs b → a ≡ b
 place-injective [] a b h e = absurd (omega arith)
-place-injective (x ∷ xs) a b h e = by_tests x a b (place xs a) (place xs b) (length xs) (eqb x a) (eqb x b) (eqb-true x a) (eqb-true x b) (place-injective xs a b) h e
+place-injective (x ∷ xs) a b h e = by_tests x a b (place xs a) (place xs b) (length xs) (eqb x a) (eqb x b) (eqb-true x a) (eqb-true x b)
+    (place-injective xs a b) h e
 
 -- the element at a place
 pub get_or-place : (xs : List ℕ) (a d : ℕ) → place xs a < length xs → get_or xs (place xs a) d ≡ a

@@ -50,15 +50,24 @@ pub distinct_numbers : (keys : List Text) (texts : List Text) (numbers : List �
     → (Repeats texts → ⊥) → AllPairs (λ a b. a ≢ b) numbers
 distinct_numbers keys texts numbers zip apart i j d less h = λ same.
     let long : length numbers ≡ length texts = AllZip-long (λ text n. HasKey keys n text) texts numbers zip in
-    let first : HasKey keys (get_or numbers i d) (get_or texts i []) = zip_at (λ text n. HasKey keys n text) texts numbers i [] d (omega arith) zip in
-    let second : HasKey keys (get_or numbers j d) (get_or texts j []) = zip_at (λ text n. HasKey keys n text) texts numbers j [] d (omega arith) zip in
+    let first : HasKey keys (get_or numbers i d) (get_or texts i []) =
+    zip_at (λ text n. HasKey keys n text) texts numbers i [] d (omega arith) zip in
+    let second : HasKey keys (get_or numbers j d) (get_or texts j []) =
+    zip_at (λ text n. HasKey keys n text) texts numbers j [] d (omega arith) zip in
     let one : get_or texts i [] ≡ get_or texts j [] = sym first.1 ∙ ap (λ n. get_or keys n []) same ∙ second.1 in
     apart (
       j,
       get_or texts j [],
       omega arith,
       get_or_default texts j (get_or texts j []) [] (omega arith),
-      (i, get_or texts i [], omega (arith, length-take j texts), get_or-take j texts i (get_or texts i []) less ∙ get_or_default texts i (get_or texts i []) [] (omega arith), one),
+      (
+        i,
+        get_or texts i [],
+        omega (arith, length-take j texts),
+        get_or-take j texts i (get_or texts i []) less
+            ∙ get_or_default texts i (get_or texts i []) [] (omega arith),
+        one,
+      ),
     )
 
 -- the numbers are those of keys

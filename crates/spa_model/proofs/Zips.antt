@@ -31,7 +31,8 @@ pub zip_also : {A B : Type 0} (R S : A → B → Type 0) (P : A → Type 0) (xs 
 zip_also R S P [] [] f all h = tt
 zip_also R S P [] (y ∷ ys) f all h = absurd h
 zip_also R S P (x ∷ xs) [] f all h = absurd h
-zip_also R S P (x ∷ xs) (y ∷ ys) f all h = (f x y h.0 (all 0 x (omega arith)), zip_also R S P xs ys f (λ k d low. all (suc k) d (omega arith)) h.1)
+zip_also R S P (x ∷ xs) (y ∷ ys) f all h =
+    (f x y h.0 (all 0 x (omega arith)), zip_also R S P xs ys f (λ k d low. all (suc k) d (omega arith)) h.1)
 
 -- some element of one list, some element of the other
 pub zip_any : {A B : Type 0} (R : A → B → Type 0) (P : A → Type 0) (Q : B → Type 0) (xs : List A) (ys : List B)

@@ -6,7 +6,7 @@ use Rattle.spa_model.specs.Spa.{Spa, choices_of, lecturer_of, capacity_of, ranki
 use Rattle.spa_model.specs.Spa.{IsAcceptable, IsLawful, IsMatching}
 use Rattle.std.specs.List.{position_or_len}
 use Rattle.std.specs.Str.{bytes_eq}
-use Rattle.spa_rows.specs.Faults.{BadAt, HasNoneBefore}
+use Rattle.spa_rows.specs.Faults.{BadAt, HasNoneBefore, IsFirst}
 use Rattle.spa_rows.specs.declared.faults.InstanceFault.TheVariants as rows_fault
 use Rattle.spa_model.specs.declared.matching.MatchingFault.{MatchingFault}
 use Rattle.spa_model.specs.declared.matching.MatchingFault.TheVariants.{NoSuchStudent, NoSuchProject, NotAcceptable}
@@ -88,13 +88,10 @@ number_of_pair_fault ProjectOver = 5
 number_of_pair_fault LecturerOver = 6
 number_of_pair_fault Memory = 7
 
--- the reported fault: the least number, at its least row; `Memory`, at row 0, needs no cause
-pub record IsFirstPairFault (i : Spa) (lines : List Pair) (fault : MatchingFault) (r : ℕ) : Type 0 where
-  pub here : HasPairFault i lines fault r
-  pub least : (q : ℕ) → HasPairFault i lines fault q → r ≤ q
-  pub none_before : (f : MatchingFault) → number_of_pair_fault f < number_of_pair_fault fault → (q : ℕ)
-      → HasPairFault i lines f q → ⊥
+abbrev pub IsFirstPairFault : Spa → List Pair → MatchingFault → ℕ → Type 0
+IsFirstPairFault i lines fault r = IsFirst number_of_pair_fault (HasPairFault i lines) fault r
 
+-- what a refusal says; `Memory`, at row 0, needs no cause
 abbrev pub IsPairRefusal : Spa → List Pair → MatchingFault → ℕ → Type 0
 IsPairRefusal i lines Memory r = r ≡ 0
 IsPairRefusal i lines fault r = IsFirstPairFault i lines fault r

@@ -4,6 +4,7 @@ use Rattle.std.specs.Prelude.{◌∷◌, length, Option, Some, None, count_by, s
 use Rattle.std.specs.declared.cmp.Ordering.TheVariants.{Less}
 use Rattle.std.specs.Ordering.{nat_cmp}
 use Rattle.std.specs.Cmp.Lexicographic.{slice_cmp}
+use Rattle.spa_rows.specs.Limits.{most_lecturers, most_projects, most_students, longest_choice, most_places}
 use Rattle.spa_rows.specs.Lines.{Text}
 use Rattle.spa_model.specs.declared.letter.Letter.{Letter}
 use Rattle.spa_model.specs.declared.letter.Letter.TheVariants.{A, B, C}
@@ -154,12 +155,12 @@ pub record IsLawful (i : Spa) : Type 0 where
   pub ranked : (s p : ℕ) → IsAcceptable i s p → IsOn (ranking_of i (lecturer_of i p)) s
   pub applicants : (l s : ℕ) → IsOn (ranking_of i l) s → (p : ℕ) × IsAcceptable i s p × (lecturer_of i p ≡ l)
   pub distinct : (l : ℕ) → IsDistinct (ranking_of i l)
-  pub capacities_in_range : (p : ℕ) → p < length i.lecturers → (1 ≤ capacity_of i p) × (capacity_of i p ≤ 200)
-  pub limits_in_range : (l : ℕ) → l < length i.rankings → (1 ≤ limit_of i l) × (limit_of i l ≤ 200)
-  pub lists_short : (s : ℕ) → length (choices_of i s) ≤ 20
-  pub student_count : length i.choices ≤ 2000
-  pub project_count : length i.lecturers ≤ 1000
-  pub lecturer_count : length i.rankings ≤ 300
+  pub capacities_in_range : (p : ℕ) → p < length i.lecturers → (1 ≤ capacity_of i p) × (capacity_of i p ≤ most_places)
+  pub limits_in_range : (l : ℕ) → l < length i.rankings → (1 ≤ limit_of i l) × (limit_of i l ≤ most_places)
+  pub lists_short : (s : ℕ) → length (choices_of i s) ≤ longest_choice
+  pub student_count : length i.choices ≤ most_students
+  pub project_count : length i.lecturers ≤ most_projects
+  pub lecturer_count : length i.rankings ≤ most_lecturers
 
 -- a letter as it is printed
 abbrev pub text_of : Letter → List ℕ

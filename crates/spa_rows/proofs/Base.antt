@@ -19,6 +19,7 @@ pub use Rattle.std.specs.Str.{IsUtf8, IsAscii, bytes_eq}
 pub use Rattle.spa_rows.specs.Faults.{BadLecturer, BadProject, BadStudent, HasFault, HasNoneBefore, IsBadCapacity}
 pub use Rattle.spa_rows.specs.Faults.{IsEarlierKey, IsFirstFault, IsKeyOf, IsRefusal, NamesNone, Repeats, number_of}
 pub use Rattle.spa_rows.specs.Faults.{BadAt, BadBelow, IsOffered, FindsOne, IsApplicant, MissesOne}
+pub use Rattle.spa_rows.specs.Limits.{longest_choice}
 pub use Rattle.spa_rows.specs.Lines.{is_key, Rows, Text, is_key_byte, LecturerWithList, ProjectWithLecturer}
 pub use Rattle.spa_rows.specs.Lines.{StudentWithList}
 pub use Rattle.spa_rows.specs.declared.faults.InstanceFault.{InstanceFault}

@@ -7,7 +7,7 @@ use Rattle.spa_rows.proofs.Base.{NoSuchLecturer, NoSuchProject, RepeatInList, Li
 use Rattle.spa_rows.proofs.Base.{ApplicantMissing, Memory, is_key, rules, ◌≢◌, false_from_ne_true, nat_list_eq_equiv}
 use Rattle.spa_rows.proofs.Base.{IsPermutation, IsDistinct, bytes_eq, length-take, get_or-take, IsPermutation-sym}
 use Rattle.spa_rows.proofs.Base.{IsPermutation-map, Contains-permutation, length_permutation, LecturerWithList}
-use Rattle.spa_rows.proofs.Base.{ProjectWithLecturer}
+use Rattle.spa_rows.proofs.Base.{ProjectWithLecturer, longest_choice}
 use Rattle.spa_rows.proofs.Base.{StudentWithList, IsOffered, FindsOne, IsApplicant, MissesOne}
 use Rattle.std.proofs.lemmas.Map.Keys.{IsDistinct-from_apart, IsDistinct-IsPermutation, apart_from_distinct}
 use Rattle.spa_rows.proofs.Lists.{at_place, map_at}
@@ -50,18 +50,25 @@ key_carry key xs ys text same known = any_carry (λ x. key x ≡ text) (λ x. ke
 -- what is said of applicants
 pub offered_carry : (a b : Rows) → SameLines a b → (project lecturer : Text) → IsOffered a project lecturer
     → IsOffered b project lecturer
-offered_carry a b same project lecturer offered = any_carry (λ p. (p.key ≡ project) × (p.lecturer ≡ lecturer)) (λ p. (p.key ≡ project) × (p.lecturer ≡ lecturer)) a.projects b.projects same.projects (λ x h. h) offered
+offered_carry a b same project lecturer offered =
+    any_carry (λ p. (p.key ≡ project) × (p.lecturer ≡ lecturer))
+    (λ p. (p.key ≡ project) × (p.lecturer ≡ lecturer)) a.projects b.projects same.projects (λ x h. h) offered
 
 pub finds_carry : (a b : Rows) → SameLines a b → (s : StudentWithList) (lecturer : Text) → FindsOne a s lecturer
     → FindsOne b s lecturer
-finds_carry a b same s lecturer found = any_step (λ project. IsOffered a project lecturer) (λ project. IsOffered b project lecturer) s.list (λ project h. offered_carry a b same project lecturer h) found
+finds_carry a b same s lecturer found = any_step (λ project. IsOffered a project lecturer) (λ project. IsOffered b project lecturer) s.list
+    (λ project h. offered_carry a b same project lecturer h) found
 
 pub applicant_carry : (a b : Rows) → SameLines a b → (lecturer text : Text) → IsApplicant a lecturer text
     → IsApplicant b lecturer text
-applicant_carry a b same lecturer text is = any_carry (λ s. (s.key ≡ text) × FindsOne a s lecturer) (λ s. (s.key ≡ text) × FindsOne b s lecturer) a.students b.students same.students (λ s h. (h.0, finds_carry a b same s lecturer h.1)) is
+applicant_carry a b same lecturer text is =
+    any_carry (λ s. (s.key ≡ text) × FindsOne a s lecturer)
+    (λ s. (s.key ≡ text) × FindsOne b s lecturer) a.students b.students same.students (λ s h. (h.0, finds_carry a b same s lecturer h.1)) is
 
 pub misses_carry : (a b : Rows) → SameLines a b → (x : LecturerWithList) → MissesOne a x → MissesOne b x
-misses_carry a b same x missed = any_carry (λ s. FindsOne a s x.key × (Any (λ text. text ≡ s.key) x.list → ⊥)) (λ s. FindsOne b s x.key × (Any (λ text. text ≡ s.key) x.list → ⊥)) a.students b.students same.students (λ s h. (finds_carry a b same s x.key h.0, h.1)) missed
+misses_carry a b same x missed = any_carry (λ s. FindsOne a s x.key × (Any (λ text. text ≡ s.key) x.list → ⊥))
+    (λ s. FindsOne b s x.key × (Any (λ text. text ≡ s.key) x.list → ⊥)) a.students b.students same.students
+    (λ s h. (finds_carry a b same s x.key h.0, h.1)) missed
 
 -- either of two faults
 either_carry : {A B C D : Type 0} → (A → C) → (B → D) → A ⊎ B → C ⊎ D
@@ -83,18 +90,36 @@ module _ (a b : Rows) (same : SameLines a b) where
 
   -- a fault other than a repeated key
   pub fault_carry : (f : InstanceFault) → f ≢ KeyTwice → (r : ℕ) → HasFault a f r → HasFault b f r
-  fault_carry TooMany ne r has = (has.0, rw (length_permutation _ _ same.lecturers, length_permutation _ _ same.projects, length_permutation _ _ same.students) has.1)
+  fault_carry TooMany ne r has = (
+    has.0,
+    rw
+        (length_permutation _ _ same.lecturers, length_permutation _ _ same.projects, length_permutation _ _ same.students) has.1,
+  )
   fault_carry BadKey ne r has =
       either_carry (lecturer_carry (λ x. is_key x.key ≡ false) (λ x. is_key x.key ≡ false) (λ x h. h) r)
-      (either_carry (project_carry (λ x. is_key x.key ≡ false) (λ x. is_key x.key ≡ false) (λ x h. h) r) (student_carry (λ x. is_key x.key ≡ false) (λ x. is_key x.key ≡ false) (λ x h. h) r)) has
+      (either_carry (project_carry (λ x. is_key x.key ≡ false) (λ x. is_key x.key ≡ false) (λ x h. h) r)
+      (student_carry (λ x. is_key x.key ≡ false) (λ x. is_key x.key ≡ false) (λ x h. h) r)) has
   fault_carry KeyTwice ne r has = absurd (ne refl)
-  fault_carry BadCapacity ne r has = either_carry (lecturer_carry (λ x. IsBadCapacity x.capacity) (λ x. IsBadCapacity x.capacity) (λ x h. h) r) (project_carry (λ x. IsBadCapacity x.capacity) (λ x. IsBadCapacity x.capacity) (λ x h. h) r) has
-  fault_carry NoSuchLecturer ne r has = project_carry (λ x. IsKeyOf a.lecturers (λ y. y.key) x.lecturer → ⊥) (λ x. IsKeyOf b.lecturers (λ y. y.key) x.lecturer → ⊥) (λ x none known. none (key_carry (λ y. y.key) b.lecturers a.lecturers x.lecturer (IsPermutation-sym _ _ same.lecturers) known)) r has
-  fault_carry NoSuchProject ne r has = student_carry (λ x. NamesNone a.projects (λ y. y.key) x.list) (λ x. NamesNone b.projects (λ y. y.key) x.list) (λ x named. any_step (λ text. IsKeyOf a.projects (λ y. y.key) text → ⊥) (λ text. IsKeyOf b.projects (λ y. y.key) text → ⊥) x.list (λ text none known. none (key_carry (λ y. y.key) b.projects a.projects text (IsPermutation-sym _ _ same.projects) known)) named) r has
-  fault_carry RepeatInList ne r has = either_carry (lecturer_carry (λ x. Repeats x.list) (λ x. Repeats x.list) (λ x h. h) r) (student_carry (λ x. Repeats x.list) (λ x. Repeats x.list) (λ x h. h) r) has
-  fault_carry ListTooLong ne r has = student_carry (λ x. 20 < length x.list) (λ x. 20 < length x.list) (λ x h. h) r has
-  fault_carry NotApplicant ne r has = lecturer_carry (λ x. Any (λ text. IsApplicant a x.key text → ⊥) x.list) (λ x. Any (λ text. IsApplicant b x.key text → ⊥) x.list) (λ x named. any_step (λ text. IsApplicant a x.key text → ⊥) (λ text. IsApplicant b x.key text → ⊥) x.list (λ text none is. none (applicant_carry b a (same_lines_sym a b same) x.key text is)) named) r has
-  fault_carry ApplicantMissing ne r has = lecturer_carry (λ x. MissesOne a x) (λ x. MissesOne b x) (λ x missed. misses_carry a b same x missed) r has
+  fault_carry BadCapacity ne r has = either_carry
+      (lecturer_carry (λ x. IsBadCapacity x.capacity) (λ x. IsBadCapacity x.capacity) (λ x h. h) r)
+      (project_carry (λ x. IsBadCapacity x.capacity) (λ x. IsBadCapacity x.capacity) (λ x h. h) r) has
+  fault_carry NoSuchLecturer ne r has = project_carry (λ x. IsKeyOf a.lecturers (λ y. y.key) x.lecturer → ⊥)
+      (λ x. IsKeyOf b.lecturers (λ y. y.key) x.lecturer → ⊥)
+      (λ x none known. none (key_carry (λ y. y.key) b.lecturers a.lecturers x.lecturer (IsPermutation-sym _ _ same.lecturers) known)) r has
+  fault_carry NoSuchProject ne r has = student_carry (λ x. NamesNone a.projects (λ y. y.key) x.list)
+      (λ x. NamesNone b.projects (λ y. y.key) x.list)
+      (λ x named. any_step (λ text. IsKeyOf a.projects (λ y. y.key) text → ⊥) (λ text. IsKeyOf b.projects (λ y. y.key) text → ⊥) x.list
+      (λ text none known. none (key_carry (λ y. y.key) b.projects a.projects text (IsPermutation-sym _ _ same.projects) known)) named) r has
+  fault_carry RepeatInList ne r has = either_carry (lecturer_carry (λ x. Repeats x.list) (λ x. Repeats x.list) (λ x h. h) r)
+      (student_carry (λ x. Repeats x.list) (λ x. Repeats x.list) (λ x h. h) r) has
+  fault_carry ListTooLong ne r has = student_carry (λ x. longest_choice < length x.list) (λ x. longest_choice < length x.list)
+      (λ x h. h) r has
+  fault_carry NotApplicant ne r has = lecturer_carry (λ x. Any (λ text. IsApplicant a x.key text → ⊥) x.list)
+      (λ x. Any (λ text. IsApplicant b x.key text → ⊥) x.list)
+      (λ x named. any_step (λ text. IsApplicant a x.key text → ⊥) (λ text. IsApplicant b x.key text → ⊥) x.list
+      (λ text none is. none (applicant_carry b a (same_lines_sym a b same) x.key text is)) named) r has
+  fault_carry ApplicantMissing ne r has = lecturer_carry (λ x. MissesOne a x) (λ x. MissesOne b x)
+      (λ x missed. misses_carry a b same x missed) r has
   fault_carry Memory ne r has = has
 
 -- the keys of lines that do not repeat are distinct, and the other way round
@@ -117,8 +142,10 @@ keys_unlike key xs apart j y in_j is_y (i, x, in_take, taken, one) =
     let before : i < j = omega (arith, in_take, length-take j xs) in
     let in_i : i < length xs = omega (arith, before, in_j) in
     let is_x : get_or xs i x ≡ x = sym (get_or-take j xs i x before) ∙ taken in
-    let same : get_or (map key xs) i (key y) ≡ get_or (map key xs) j (key y) = map_at key xs i x (key y) in_i is_x ∙ one ∙ sym (map_at key xs j y (key y) in_j is_y) in
-    false≢true (sym (apart_from_distinct bytes_eq (map key xs) i j (key y) apart before (omega (arith, in_j, long))) ∙ (bytes_eq-Decides _ _).1 same)
+    let same : get_or (map key xs) i (key y) ≡ get_or (map key xs) j (key y) = map_at key xs i x (key y) in_i is_x ∙ one
+    ∙ sym (map_at key xs j y (key y) in_j is_y) in
+    false≢true (sym (apart_from_distinct bytes_eq (map key xs) i j (key y) apart before (omega (arith, in_j, long)))
+    ∙ (bytes_eq-Decides _ _).1 same)
 
 bytes_flip : (x y : Text) → bytes_eq x y ≡ bytes_eq y x
 bytes_flip x y = nat_list_eq_equiv.symm x y
@@ -129,7 +156,8 @@ twice_carry : {X : Type 0} (key : X → Text) (row : X → ℕ) (xs ys : List X)
     → BadAt ys row (λ j x. IsEarlierKey ys key j (key x)) r → ⊥
 twice_carry key row xs ys same none r (j, y, h, h2, at, in_row, earlier) =
     let apart = keys_apart key xs (λ i x g is before. none (row x) (i, x, g, g, is, refl, before)) in
-    keys_unlike key ys (IsDistinct-IsPermutation bytes_eq bytes_flip (map key xs) (map key ys) (IsPermutation-map key xs ys same) apart) j y h at earlier
+    keys_unlike key ys (IsDistinct-IsPermutation bytes_eq bytes_flip (map key xs) (map key ys) (IsPermutation-map key xs ys same) apart) j y
+    h at earlier
 
 -- a repeated key
 pub twice_none_carry : (a b : Rows) → SameLines a b → ((r : ℕ) → HasFault a KeyTwice r → ⊥) → (r : ℕ)
@@ -150,7 +178,8 @@ pub none_before_carry : (a b : Rows) → SameLines a b → (fault : InstanceFaul
     → HasNoneBefore b fault
 none_before_carry a b same fault none f below r has = elim (is_twice f) [
   | inl twice ↦
-      twice_none_carry a b same (λ q h. none KeyTwice (omega (arith, below, ap number_of twice)) q h) r (subst (λ x. HasFault b x r) twice has)
+      twice_none_carry a b same (λ q h. none KeyTwice (omega (arith, below, ap number_of twice)) q h) r
+      (subst (λ x. HasFault b x r) twice has)
   | inr other ↦ none f below r (fault_carry b a (same_lines_sym a b same) f other r has)
 ]
 

@@ -8,7 +8,11 @@ use Rattle.spa_rows.proofs.Base.{◌==◌}
 use Rattle.spa_rows.specs.declared.faults.BadInstance.{BadInstance}
 
 fault_at : ℕ → InstanceFault
-fault_at n = if n == 1 then TooMany else (if n == 2 then BadKey else (if n == 3 then KeyTwice else (if n == 4 then BadCapacity else (if n == 5 then NoSuchLecturer else (if n == 6 then NoSuchProject else (if n == 7 then RepeatInList else (if n == 8 then ListTooLong else (if n == 9 then NotApplicant else (if n == 10 then ApplicantMissing else Memory)))))))))
+fault_at n = if n == 1 then TooMany else
+    (if n == 2 then BadKey else (if n == 3 then KeyTwice
+    else (if n == 4 then BadCapacity else (if n == 5 then NoSuchLecturer
+    else (if n == 6 then NoSuchProject else (if n == 7 then RepeatInList
+    else (if n == 8 then ListTooLong else (if n == 9 then NotApplicant else (if n == 10 then ApplicantMissing else Memory)))))))))
 
 back : (f : InstanceFault) → fault_at (number_of f) ≡ f
 unfolding fault_at

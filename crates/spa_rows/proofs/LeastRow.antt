@@ -20,19 +20,36 @@ module _ {X : Type 0} (lines : List X) (row : X → ℕ) (Bad : ℕ → X → Ty
   pub least_skip : (n : ℕ) (x : X) (o : Option ℕ) → n < length lines → get_or lines n x ≡ x → (Bad n x → ⊥)
       → IsLeastOf (BadBelow lines row Bad n) o → IsLeastOf (BadBelow lines row Bad (n + 1)) o
   least_skip n x None h e good none = λ r bad. elim (last_or_before n r x h e bad) [ inl before ↦ none r before | inr here ↦ good here.1 ]
-  least_skip n x (Some b) h e good found = (further n b found.0, λ r bad. elim (last_or_before n r x h e bad) [ inl before ↦ found.1 r before | inr here ↦ absurd (good here.1) ])
+  least_skip n x (Some b) h e good found = (
+    further n b found.0,
+    λ r bad. elim (last_or_before n r x h e bad) [
+      | inl before ↦ found.1 r before
+      | inr here ↦ absurd
+          (good here.1)
+    ],
+  )
 
   -- it is bad
   pub least_take : (n : ℕ) (x : X) (o : Option ℕ) → n < length lines → get_or lines n x ≡ x → Bad n x
       → IsLeastOf (BadBelow lines row Bad n) o → IsLeastOf (BadBelow lines row Bad (n + 1)) (Some (least_row o (row x)))
-  least_take n x None h e bad none = ((n, x, omega arith, h, e, refl, bad), λ r b. elim (last_or_before n r x h e b) [ inl before ↦ absurd (none r before) | inr here ↦ omega (arith, here.0) ])
+  least_take n x None h e bad none = (
+    (n, x, omega arith, h, e, refl, bad),
+    λ r b. elim (last_or_before n r x h e b) [ inl before ↦ absurd (none r before) | inr here ↦ omega (arith, here.0) ],
+  )
   least_take n x (Some b) h e bad found = elim (cases_lt b (row x)) [
     | inl less ↦
         let is_b : min b (row x) ≡ b = omega arith in
-        rw is_b (further n b found.0, λ r c. elim (last_or_before n r x h e c) [ inl before ↦ found.1 r before | inr here ↦ omega (arith, here.0) ])
+        rw is_b (
+          further n b found.0,
+          λ r c. elim
+              (last_or_before n r x h e c) [ inl before ↦ found.1 r before | inr here ↦ omega (arith, here.0) ],
+        )
     | inr no_less ↦
         let is_row : min b (row x) ≡ row x = omega arith in
-        rw is_row ((n, x, omega arith, h, e, refl, bad), λ r c. elim (last_or_before n r x h e c) [ inl before ↦ omega (arith, found.1 r before) | inr here ↦ omega (arith, here.0) ])
+        rw is_row (
+          (n, x, omega arith, h, e, refl, bad),
+          λ r c. elim (last_or_before n r x h e c) [ inl before ↦ omega (arith, found.1 r before) | inr here ↦ omega (arith, here.0) ],
+        )
   ]
 
   -- the step of a loop that asks of each line whether it is bad
@@ -54,7 +71,10 @@ module _ {X : Type 0} (lines : List X) (row : X → ℕ) (Says : X → Bool → 
       → ((j : ℕ) (x : X) → j < n → get_or lines j x ≡ x → P j x ↔ Q j x) → IsLeastOf (BadBelow lines row P n) o
       → IsLeastOf (BadBelow lines row Q n) o
   alike P Q n None same none = λ r (j, x, below, h, at, is, bad). none r (j, x, below, h, at, is, (same j x below at).1 bad)
-  alike P Q n (Some r) same ((j, x, below, h, at, is, bad), least) = ((j, x, below, h, at, is, (same j x below at).0 bad), λ q (k, y, under, g, there, has, worse). least q (k, y, under, g, there, has, (same k y under there).1 worse))
+  alike P Q n (Some r) same ((j, x, below, h, at, is, bad), least) = (
+    (j, x, below, h, at, is, (same j x below at).0 bad),
+    λ q (k, y, under, g, there, has, worse). least q (k, y, under, g, there, has, (same k y under there).1 worse),
+  )
 
   pub told_none : IsLeastTold lines row Says 0 None
   told_none = record { told = λ _. false; each = λ j x below at. absurd (omega arith); least = λ r bad. omega (arith, bad.2) }
@@ -83,7 +103,9 @@ module _ {X : Type 0} (lines : List X) (row : X → ℕ) (Says : X → Bool → 
   pub told_least : (shown : List X) (Bad : X → Type 0) (o : Option ℕ) → IsLeastTold lines row Says (length lines) o
       → lines ≡ shown → ((x : X) (b : Bool) → Says x b → IsTrue b ↔ Bad x)
       → IsLeastOf (BadAt shown row (λ _ x. Bad x)) o
-  told_least shown Bad o so same means = rw (sym same) (alike (λ j _. IsTrue (so.told j)) (λ _ x. Bad x) (length lines) o (λ j x below at. means x (so.told j) (so.each j x below at)) so.least)
+  told_least shown Bad o so same means = rw (sym same)
+      (alike (λ j _. IsTrue (so.told j)) (λ _ x. Bad x) (length lines) o
+      (λ j x below at. means x (so.told j) (so.each j x below at)) so.least)
 
 -- the lesser of the two least rows
 pub least_either : (P Q : ℕ → Type 0) (a b : Option ℕ) → IsLeastOf P a → IsLeastOf Q b

@@ -21,7 +21,8 @@ pub any_mapped : {X Y : Type 0} (f : X → Y) (P : Y → Type 0) (r : Bool) (xs 
     → MatchBool r ((k : ℕ) × (k < length xs) × HoldsAt (λ x. P (f x)) xs k) (AllWithin (λ x. P (f x) → ⊥) xs 0 (length xs))
     → IsTrue r ↔ Any P (map f xs)
 any_mapped f P true xs some = (
-  λ _. let x = at_place xs some.0 some.1 in (some.0, f x.0, omega (arith, length-map xs f, some.1), map_at f xs some.0 x.0 (f x.0) some.1 x.1, rw x.1 at (some.2 x.0)),
+  λ _. let x = at_place xs some.0 some.1 in
+      (some.0, f x.0, omega (arith, length-map xs f, some.1), map_at f xs some.0 x.0 (f x.0) some.1 x.1, rw x.1 at (some.2 x.0)),
   λ _. refl,
 )
 any_mapped f P false xs none = (

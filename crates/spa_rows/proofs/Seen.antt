@@ -34,7 +34,14 @@ module _ {X : Type 0} (xs : List X) (key : X → Text) where
       → IsEarlierKey xs key (n + 1) text ↔ (IsEarlierKey xs key n text ⊎ (key x ≡ text))
   more n x text h e =
       let grown : take (n + 1) xs ≡ take n xs ++ x ∷ [] = take_more xs n x h ∙ ap (λ y. take n xs ++ y ∷ []) e in
-      rw grown (λ any. any_push (λ y. key y ≡ text) (take n xs) x any, λ either. elim either [ inl before ↦ any_left (λ y. key y ≡ text) (take n xs) (x ∷ []) before | inr here ↦ Any-push (λ y. key y ≡ text) (take n xs) x here ])
+      rw grown (
+        λ any. any_push (λ y. key y ≡ text) (take n xs) x any,
+        λ either. elim either [
+          | inl before ↦ any_left (λ y. key y ≡ text) (take n xs) (x ∷ []) before
+          | inr here ↦ Any-push
+              (λ y. key y ≡ text) (take n xs) x here
+        ],
+      )
 
   -- a tree has the texts of the first n
   pub record IsInTree (set : BTreeSet (Bor Text)) (n : ℕ) : Type 0 where

@@ -1,5 +1,6 @@
 -- What can be wrong with the rows of an instance: `HasFault rows fault r` says that row r has it.
 use Rattle.std.specs.Prelude.{◌≡◌, ℕ, ◌<◌, List, length, slice_index_or, ◌⊎◌, ◌≤◌, false, Any, take}
+use Rattle.spa_rows.specs.Limits.{most_lecturers, most_projects, most_students, longest_choice, most_places}
 use Rattle.spa_rows.specs.Lines.{is_key, Text, LecturerWithList, ProjectWithLecturer, StudentWithList, Rows}
 use Rattle.spa_rows.specs.declared.faults.InstanceFault.{InstanceFault}
 use Rattle.spa_rows.specs.declared.faults.InstanceFault.TheVariants.{TooMany, BadKey, KeyTwice, BadCapacity}
@@ -30,9 +31,9 @@ BadStudent rows Bad r = BadAt rows.students (λ x. x.row) Bad r
 abbrev pub IsEarlierKey : {X : Type 0} → List X → (X → Text) → ℕ → Text → Type 0
 IsEarlierKey lines key j text = Any (λ y. key y ≡ text) (take j lines)
 
--- a capacity outside 1 to 200
+-- a capacity outside its range
 abbrev pub IsBadCapacity : ℕ → Type 0
-IsBadCapacity n = (n < 1) ⊎ (200 < n)
+IsBadCapacity n = (n < 1) ⊎ (most_places < n)
 
 -- one of the lines has this key
 abbrev pub IsKeyOf : {X : Type 0} → List X → (X → Text) → Text → Type 0
@@ -67,7 +68,9 @@ MissesOne rows x = Any (λ s. FindsOne rows s x.key × (Any (λ text. text ≡ s
 -- row r has the fault; `TooMany` belongs to no single row and has r = 0
 abbrev pub HasFault : Rows → InstanceFault → ℕ → Type 0
 HasFault rows TooMany r =
-    (r ≡ 0) × ((300 < length rows.lecturers) ⊎ ((1000 < length rows.projects) ⊎ (2000 < length rows.students)))
+    (r ≡ 0)
+    × ((most_lecturers < length rows.lecturers)
+    ⊎ ((most_projects < length rows.projects) ⊎ (most_students < length rows.students)))
 HasFault rows BadKey r =
     BadLecturer rows (λ _ x. is_key x.key ≡ false) r
     ⊎ (BadProject rows (λ _ x. is_key x.key ≡ false) r ⊎ BadStudent rows (λ _ x. is_key x.key ≡ false) r)
@@ -80,7 +83,7 @@ HasFault rows BadCapacity r =
 HasFault rows NoSuchLecturer r = BadProject rows (λ _ x. IsKeyOf rows.lecturers (λ y. y.key) x.lecturer → ⊥) r
 HasFault rows NoSuchProject r = BadStudent rows (λ _ x. NamesNone rows.projects (λ y. y.key) x.list) r
 HasFault rows RepeatInList r = BadLecturer rows (λ _ x. Repeats x.list) r ⊎ BadStudent rows (λ _ x. Repeats x.list) r
-HasFault rows ListTooLong r = BadStudent rows (λ _ x. 20 < length x.list) r
+HasFault rows ListTooLong r = BadStudent rows (λ _ x. longest_choice < length x.list) r
 HasFault rows NotApplicant r = BadLecturer rows (λ _ x. Any (λ text. IsApplicant rows x.key text → ⊥) x.list) r
 HasFault rows ApplicantMissing r = BadLecturer rows (λ _ x. MissesOne rows x) r
 HasFault rows Memory r = ⊥
@@ -99,16 +102,23 @@ number_of NotApplicant = 9
 number_of ApplicantMissing = 10
 number_of Memory = 11
 
--- no row has a fault with a smaller number
+-- of numbered faults that rows may have, no row has one with a smaller number
+abbrev pub NoneBefore : {F : Type 0} → (F → ℕ) → (F → ℕ → Type 0) → F → Type 0
+NoneBefore {F} number Has fault = (f : F) → number f < number fault → (q : ℕ) → Has f q → ⊥
+
+-- the reported fault: the least number, at its least row
+pub record IsFirst {F : Type 0} (number : F → ℕ) (Has : F → ℕ → Type 0) (fault : F) (r : ℕ) : Type 0 where
+  pub here : Has fault r
+  pub least : (q : ℕ) → Has fault q → r ≤ q
+  pub none_before : NoneBefore number Has fault
+
 abbrev pub HasNoneBefore : Rows → InstanceFault → Type 0
-HasNoneBefore rows fault = (f : InstanceFault) → number_of f < number_of fault → (q : ℕ) → HasFault rows f q → ⊥
+HasNoneBefore rows fault = NoneBefore number_of (HasFault rows) fault
 
--- the reported fault: the least number, at its least row; `Memory`, at row 0, needs no cause
-pub record IsFirstFault (rows : Rows) (fault : InstanceFault) (r : ℕ) : Type 0 where
-  pub here : HasFault rows fault r
-  pub least : (q : ℕ) → HasFault rows fault q → r ≤ q
-  pub none_before : HasNoneBefore rows fault
+abbrev pub IsFirstFault : Rows → InstanceFault → ℕ → Type 0
+IsFirstFault rows fault r = IsFirst number_of (HasFault rows) fault r
 
+-- what a refusal says; `Memory`, at row 0, needs no cause
 abbrev pub IsRefusal : Rows → InstanceFault → ℕ → Type 0
 IsRefusal rows Memory r = r ≡ 0
 IsRefusal rows fault r = IsFirstFault rows fault r

@@ -1,3 +1,4 @@
+pub mod Limits
 pub mod Lines
 pub mod Faults
 pub mod Numbers

@@ -2,14 +2,15 @@
 use Rattle.std.specs.Prelude.{ℕ, Bool, List, length, ◌&&◌, ◌||◌, ◌==◌, nat_le}
 use Rattle.std.specs.Char.{is_ascii_alphanumeric}
 use Rattle.std.specs.List.{list_all}
+use Rattle.spa_rows.specs.Limits.{longest_key}
 
 -- an ASCII letter or digit, `-`, `_` or `.`
 abbrev pub is_key_byte : ℕ → Bool
 is_key_byte b = is_ascii_alphanumeric b || b == 45 || b == 95 || b == 46
 
--- a key has 1 to 16 of these bytes
+-- a key has 1 to so many of these bytes
 abbrev pub is_key : List ℕ → Bool
-is_key bytes = nat_le 1 (length bytes) && nat_le (length bytes) 16 && list_all is_key_byte bytes
+is_key bytes = nat_le 1 (length bytes) && nat_le (length bytes) longest_key && list_all is_key_byte bytes
 
 abbrev pub Text : Type 0
 Text = List ℕ

@@ -7,7 +7,7 @@ ghost use Rattle.spa_rows.specs.Numbers.{AreListNumbers};
 ghost use Rattle.spa_rows.specs.inner.Least.{IsLeastOf, lesser_row};
 
 use crate::faults::{BadInstance, InstanceFault};
-use crate::index::{Places, list_numbers};
+use crate::index::{LineIndex, list_numbers};
 use crate::least::{
     has_bad_key, is_bad_capacity, key_twice, least, least_where, repeat_in_list, unknown_in_list,
 };
@@ -38,7 +38,7 @@ fn too_many(rows: &InstanceRows) -> Option<u32>
     None
 }
 
-/// Finds, in lines of every kind, the lowest-numbered row with a malformed key.
+/// Finds the lowest-numbered row of any kind with a malformed key.
 fn bad_keys(rows: &InstanceRows) -> Option<u32>
     ensures { IsLeastOf (HasFault rows.now InstanceFault.BadKey) result }
 {
@@ -48,7 +48,7 @@ fn bad_keys(rows: &InstanceRows) -> Option<u32>
     smaller_row(lecturer, smaller_row(project, student))
 }
 
-/// Finds, in lines of every kind, the lowest-numbered row that repeats a key of its kind.
+/// Finds the lowest-numbered row of any kind that repeats a key of its kind.
 fn keys_twice(alloc: Global, rows: &InstanceRows) -> Result<Option<u32>, AllocError>
     ensures { IfOk result (IsLeastOf (HasFault rows.now InstanceFault.KeyTwice)) }
 {
@@ -58,7 +58,7 @@ fn keys_twice(alloc: Global, rows: &InstanceRows) -> Result<Option<u32>, AllocEr
     Ok(smaller_row(lecturer, smaller_row(project, student)))
 }
 
-/// Finds, in lines of every kind, the lowest-numbered row with a bad capacity.
+/// Finds the lowest-numbered row of a lecturer or project with a bad capacity.
 fn bad_capacities(rows: &InstanceRows) -> Option<u32>
     ensures { IsLeastOf (HasFault rows.now InstanceFault.BadCapacity) result }
 {
@@ -67,16 +67,15 @@ fn bad_capacities(rows: &InstanceRows) -> Option<u32>
     smaller_row(lecturer, project)
 }
 
-/// Finds, in lines of every kind, the lowest-numbered row of a project whose lecturer is unknown.
+/// Finds the lowest-numbered row of a project whose lecturer is unknown.
 fn lecturers_missing(alloc: Global, rows: &InstanceRows) -> Result<Option<u32>, AllocError>
     ensures { IfOk result (IsLeastOf (HasFault rows.now InstanceFault.NoSuchLecturer)) }
 {
-    let lecturers = Places::of(alloc, &rows.lecturers)?;
+    let lecturers = LineIndex::of(alloc, &rows.lecturers)?;
     Ok(least_where(&rows.projects, |line| !lecturers.has(&line.lecturer)))
 }
 
-/// Finds, in lines of every kind, the lowest-numbered row of a student who lists an unknown
-/// project.
+/// Finds the lowest-numbered row of a student who lists an unknown project.
 fn projects_missing(rows: &InstanceRows, choices: &[Vec<usize>]) -> Option<u32>
     requires { AreListNumbers rows.now.projects (λ x. x.key) (λ x. x.list)
         rows.now.students choices.now }
@@ -85,7 +84,7 @@ fn projects_missing(rows: &InstanceRows, choices: &[Vec<usize>]) -> Option<u32>
     unknown_in_list(&rows.students, choices, rows.projects.len())
 }
 
-/// Finds, in lines of every kind, the lowest-numbered row whose list contains a text twice.
+/// Finds the lowest-numbered row of a lecturer or student whose list contains a text twice.
 fn repeats_in_lists(
     alloc: Global,
     rows: &InstanceRows,
@@ -104,7 +103,7 @@ fn repeats_in_lists(
     Ok(smaller_row(lecturer, student))
 }
 
-/// Finds, in lines of every kind, the lowest-numbered row of a student whose list is too long.
+/// Finds the lowest-numbered row of a student whose list is too long.
 fn lists_too_long(rows: &InstanceRows) -> Option<u32>
     ensures { IsLeastOf (HasFault rows.now InstanceFault.ListTooLong) result }
 {

@@ -9,7 +9,7 @@ ghost use Rattle.std.specs.HashMap.{get};
 ghost use Rattle.spa_rows.specs.inner.Index.{text_eq};
 ghost use Rattle.spa_rows.specs.Numbers.{AreListNumbers, HasNumber, HaveNumbers};
 
-use crate::lines::{InstanceRows, Line, Listing};
+use crate::lines::{HasList, InstanceRows, Line};
 use std::alloc::{AllocError, Global};
 use std::cmp::Ordering;
 use std::collections::HashMap;
@@ -25,12 +25,12 @@ fn place_of(places: &HashMap<&[u8], usize>, key: &[u8]) -> Option<usize>
 /// Lines, and a hash map from each key to the index of its line. Crafted keys can collide in the
 /// map; a search then compares each key at most once.
 #[derive(Drop)]
-pub struct Places<'a, L: Line> {
+pub struct LineIndex<'a, L: Line> {
     lines: &'a [L],
     places: HashMap<&'a [u8], usize>,
 }
 
-impl<'a, L: Line> Model for Places<'a, L> {
+impl<'a, L: Line> Model for LineIndex<'a, L> {
     ghost use Rattle.std.specs.Prelude.{List, length};
     ghost use Rattle.spa_rows.specs.inner.Index.{IsIndexOf};
 
@@ -41,16 +41,16 @@ impl<'a, L: Line> Model for Places<'a, L> {
     ghost invariant = { λ p. IsIndexOf p.lines.now L.key_of (length p.lines.now) p.places };
 }
 
-impl<'a, L: Line> Places<'a, L> {
+impl<'a, L: Line> LineIndex<'a, L> {
     /// Indexes these lines by key. If a key occurs twice, its last line counts.
-    pub fn of(alloc: Global, lines: &'a [L]) -> Result<Places<'a, L>, AllocError>
+    pub fn of(alloc: Global, lines: &'a [L]) -> Result<LineIndex<'a, L>, AllocError>
         ensures { IfOk result (λ places. places ≡ lines.now) }
     {
         let mut places = HashMap::with_capacity(alloc, lines.len())?;
         for (place, line) in lines.iter().enumerate() {
             places.insert(line.key(), place)?;
         }
-        Ok(Places { lines, places })
+        Ok(LineIndex { lines, places })
     }
 
     /// Returns the number of lines.
@@ -101,7 +101,7 @@ impl<'a, L: Line> Places<'a, L> {
 
 /// Returns the numbers of the keys on the list of each line: of a key, the index of its line, or
 /// the number of lines if no line has the key.
-pub(crate) fn list_numbers<L: Listing, K: Line>(
+pub(crate) fn list_numbers<L: HasList, K: Line>(
     alloc: Global,
     owners: &[L],
     lines: &[K],
@@ -109,7 +109,7 @@ pub(crate) fn list_numbers<L: Listing, K: Line>(
     ensures { IfOk result (λ numbers. AreListNumbers lines.now K.key_of L.list_of
         owners.now numbers.items) }
 {
-    let places = Places::of(alloc, lines)?;
+    let places = LineIndex::of(alloc, lines)?;
     let mut numbers = Vec::with_capacity(alloc, owners.len())?;
     for owner in owners {
         numbers.push(places.numbers(alloc, owner.list())?)?;

@@ -12,7 +12,7 @@ ghost use Rattle.spa_rows.specs.inner.Least.{IsLeastOf, IsLeastTold, least_row};
 
 use crate::key::is_key_text;
 use crate::limits::is_capacity;
-use crate::lines::{Line, Listing};
+use crate::lines::{HasList, Line};
 use std::alloc::{AllocError, Global};
 use std::collections::BTreeSet;
 
@@ -126,7 +126,7 @@ fn list_repeats(
 
 /// Finds the lowest-numbered row of a line whose list contains a text twice, given the numbers of
 /// the texts, which are below `count`.
-pub(crate) fn repeat_in_list<L: Line + Listing>(
+pub(crate) fn repeat_in_list<L: Line + HasList>(
     alloc: Global,
     lines: &[L],
     numbers: &[Vec<usize>],

@@ -11,7 +11,7 @@ mod lines;
 
 pub use checks::{check_lines, check_lists, refuse};
 pub use faults::{BadInstance, InstanceFault};
-pub use index::{Places, sort_rows};
+pub use index::{LineIndex, sort_rows};
 pub use key::{Key, KeyFault};
 pub use least::least_with;
 pub use lines::{

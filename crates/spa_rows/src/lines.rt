@@ -177,7 +177,7 @@ impl Line for StudentLine {
 }
 
 /// A line with a list of keys.
-pub trait Listing {
+pub trait HasList {
     ghost list_of: { Self → List Text };
 
     /// Returns the keys on the line's list.
@@ -185,7 +185,7 @@ pub trait Listing {
         ensures { map (λ text. text.items) result.now ≡ list_of self.now };
 }
 
-impl Listing for LecturerLine {
+impl HasList for LecturerLine {
     ghost list_of = { λ x. x.list };
 
     fn list(&self) -> &[Vec<u8>] {
@@ -193,7 +193,7 @@ impl Listing for LecturerLine {
     }
 }
 
-impl Listing for StudentLine {
+impl HasList for StudentLine {
     ghost list_of = { λ x. x.list };
 
     fn list(&self) -> &[Vec<u8>] {

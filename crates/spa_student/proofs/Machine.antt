@@ -15,7 +15,12 @@ use Rattle.spa_model.specs.declared.Letter.TheVariants.{A, B, C}
 
 -- a lawful instance is ranked
 pub ranked_of : (i : Spa) → IsLawful i → IsRanked i
-ranked_of i lawful = record { known = lawful.known; offered = lawful.offered; ranked = lawful.ranked; choices_distinct = lawful.choices_distinct }
+ranked_of i lawful = record {
+  known = lawful.known;
+  offered = lawful.offered;
+  ranked = lawful.ranked;
+  choices_distinct = lawful.choices_distinct;
+}
 
 -- a student with a project is a student
 pub student_in_range : (i : Spa) (m : List (Option ℕ)) (s q : ℕ) → project_of m s ≡ Some q → s < length m
@@ -50,7 +55,8 @@ blocked i n stable t p s u at same before wants room =
 kept : (i : Spa) (m n : List (Option ℕ)) (Deleted : ℕ → ℕ → Type 0) → IsProvisional i m Deleted
     → (stable : IsStable i n)
     → IsRanked i → (t p s u : ℕ) → project_of n t ≡ Some p → project_of m s ≡ Some u
-    → lecturer_of i u ≡ lecturer_of i p → rank_of i (lecturer_of i u) s < rank_of i (lecturer_of i u) t → (u ≡ p) ⊎ (at_project n u < capacity_of i u)
+    → lecturer_of i u ≡ lecturer_of i p → rank_of i (lecturer_of i u) s < rank_of i (lecturer_of i u) t
+    → (u ≡ p) ⊎ (at_project n u < capacity_of i u)
     → (o : Option ℕ) → project_of n s ≡ o → o ≡ Some u
 kept i m n Deleted holds stable lawful t p s u at has same less room None e = search (rules, blocked)
 kept i m n Deleted holds stable lawful t p s u at has same less room (Some v) e =
@@ -68,14 +74,16 @@ kept i m n Deleted holds stable lawful t p s u at has same less room (Some v) e 
 -- where n has at u each student whom m has there, m has no more
 pub no_more : (m n : List (Option ℕ)) (u : ℕ) → length m ≡ length n
     → ((s : ℕ) → project_of m s ≡ Some u → project_of n s ≡ Some u) → at_project m u ≤ at_project n u
-no_more m n u same keeps = count_by-le (is_project u) m n same (λ s h. is_project-at u (project_of n s) (keeps s (project_from_test u (project_of m s) h)))
+no_more m n u same keeps = count_by-le (is_project u) m n same
+    (λ s h. is_project-at u (project_of n s) (keeps s (project_from_test u (project_of m s) h)))
 
 -- and fewer, where n has one more there
 fewer : (m n : List (Option ℕ)) (u t : ℕ) → length m ≡ length n
     → ((s : ℕ) → project_of m s ≡ Some u → project_of n s ≡ Some u) → t < length n → project_of n t ≡ Some u
     → (project_of m t ≡ Some u → ⊥) → at_project m u + 1 ≤ at_project n u
 fewer m n u t same keeps t_in at not_at =
-    count_by-lt (is_project u) m n t same (λ s h. is_project-at u (project_of n s) (keeps s (project_from_test u (project_of m s) h))) t_in (off_project u (project_of m t) not_at) (is_project-at u (project_of n t) at)
+    count_by-lt (is_project u) m n t same (λ s h. is_project-at u (project_of n s) (keeps s (project_from_test u (project_of m s) h))) t_in
+    (off_project u (project_of m t) not_at) (is_project-at u (project_of n t) at)
 
 -- a pair that may be deleted is in no stable matching
 pub spent_is_hopeless : (i : Spa) (m n : List (Option ℕ)) (Deleted : ℕ → ℕ → Type 0) → IsProvisional i m Deleted
@@ -85,25 +93,36 @@ spent_is_hopeless i m n Deleted holds lawful t p (inr project) stable at =
     let keeps : (s : ℕ) → project_of m s ≡ Some p → project_of n s ≡ Some p =
     λ s has. kept i m n Deleted holds stable lawful t p s p at has refl (project.before s has) (inl refl) (project_of n s) refl in
     let less : at_project m p + 1 ≤ at_project n p =
-    fewer m n p t (holds.matching.students ∙ sym stable.matching.students) keeps (student_in_range i n t p at) at (λ has. absurd (omega (arith, project.before t has))) in
+    fewer m n p t (holds.matching.students ∙ sym stable.matching.students) keeps (student_in_range i n t p at) at
+    (λ has. absurd (omega (arith, project.before t has))) in
     omega (arith, less, project.full, stable.matching.projects p)
 spent_is_hopeless i m n Deleted holds lawful t p (inl lecturer) stable at =
     let count : ℕ = length i.lecturers in
     let l : ℕ = lecturer_of i p in
     let same : length m ≡ length n = holds.matching.students ∙ sym stable.matching.students in
-    let sum_m : at_lecturer i m l ≡ sum_below (share i m l) count = at_lecturer-sum i l count m (λ s q e. lawful.known s q (holds.matching.acceptable s q e)) in
-    let sum_n : at_lecturer i n l ≡ sum_below (share i n l) count = at_lecturer-sum i l count n (λ s q e. lawful.known s q (stable.matching.acceptable s q e)) in
-    let keeps : (u : ℕ) → lecturer_of i u ≡ l → (u ≡ p) ⊎ (at_project n u < capacity_of i u) → (s : ℕ) → project_of m s ≡ Some u → project_of n s ≡ Some u =
-    λ u of_l room s has. kept i m n Deleted holds stable lawful t p s u at has of_l (rw of_l (lecturer.before s u has of_l)) room (project_of n s) refl in
+    let sum_m : at_lecturer i m l ≡ sum_below (share i m l) count =
+    at_lecturer-sum i l count m (λ s q e. lawful.known s q (holds.matching.acceptable s q e)) in
+    let sum_n : at_lecturer i n l ≡ sum_below (share i n l) count =
+    at_lecturer-sum i l count n (λ s q e. lawful.known s q (stable.matching.acceptable s q e)) in
+    let keeps : (u : ℕ) → lecturer_of i u ≡ l → (u ≡ p) ⊎ (at_project n u < capacity_of i u) → (s : ℕ) → project_of m s ≡ Some u
+    → project_of n s ≡ Some u =
+    λ u of_l room s has. kept i m n Deleted holds stable lawful t p s u at has of_l (rw of_l (lecturer.before s u has of_l)) room
+    (project_of n s) refl in
     let each : (u : ℕ) → lecturer_of i u ≡ l → at_project m u ≤ at_project n u =
     λ u of_l. elim (cases_lt (at_project n u) (capacity_of i u)) [
       | inl room ↦ no_more m n u same (keeps u of_l (inr room))
       | inr full ↦ let fits : at_project m u ≤ capacity_of i u = holds.matching.projects u in omega arith
     ] in
     let here : at_project m p + 1 ≤ at_project n p =
-    fewer m n p t same (keeps p refl (inl refl)) (student_in_range i n t p at) at (λ has. absurd (omega (arith, lecturer.before t p has refl))) in
+    fewer m n p t same (keeps p refl (inl refl)) (student_in_range i n t p at) at
+    (λ has. absurd (omega (arith, lecturer.before t p has refl))) in
     let less : sum_below (share i m l) count + 1 ≤ sum_below (share i n l) count =
-    sum_below-lt (share i m l) (share i n l) count p (λ u. elim (cases_Bool (eqb (lecturer_of i u) l)) [ inl own ↦ rw own (each u (eqb-true _ _ own)) | inr other ↦ rw other (omega arith) ])
+    sum_below-lt (share i m l) (share i n l) count p
+    (λ u. elim (cases_Bool (eqb (lecturer_of i u) l)) [
+      | inl own ↦ rw own (each u (eqb-true _ _ own))
+      | inr other ↦ rw other
+          (omega arith)
+    ])
     (lawful.known t p (stable.matching.acceptable t p at)) (rw (eq-eqb l l refl) here) in
     omega (arith, sum_m, sum_n, less, lecturer.full, stable.matching.lecturers l)
 
@@ -115,7 +134,11 @@ delete_holds i m Deleted More lawful holds keeps new = record {
   matching = holds.matching;
   first = λ s p q has better. keeps s p (holds.first s p q has better);
   spent = λ t p gone. elim (new t p gone) [ inl old ↦ holds.spent t p old | inr now ↦ now ];
-  hopeless = λ t p gone n stable at. elim (new t p gone) [ inl old ↦ holds.hopeless t p old n stable at | inr now ↦ spent_is_hopeless i m n Deleted holds lawful t p now stable at ];
+  hopeless = λ t p gone n stable at. elim (new t p gone) [
+    | inl old ↦ holds.hopeless t p old n stable at
+    | inr now ↦ spent_is_hopeless i m n
+        Deleted holds lawful t p now stable at
+  ];
 }
 
 -- a pair that may be deleted does not block
@@ -199,16 +222,29 @@ one_more before after limit p more room fits q = elim (cases_eq p q) [
 
 -- another student, who is on the list and not after w, stands before w
 stands_before : (xs : List ℕ) (x w : ℕ) → IsOn xs x → x ≢ w → place xs x ≤ place xs w → place xs x < place xs w
-stands_before xs x w on other le = elim (cases_eq (place xs x) (place xs w)) [ inl level ↦ absurd (other (place-injective xs x w on level)) | inr apart ↦ omega arith ]
+stands_before xs x w on other le = elim (cases_eq (place xs x) (place xs w)) [
+  | inl level ↦ absurd
+      (other (place-injective xs x w on level))
+  | inr apart ↦ omega arith
+]
 
 -- a free student s is put at p, the first project that is left
-module _ (i : Spa) (m : List (Option ℕ)) (Deleted : ℕ → ℕ → Type 0) (holds : IsProvisional i m Deleted) (s p : ℕ) (in_range : s < length m) (free : project_of m s ≡ None) (on : IsAcceptable i s p) (first : (q : ℕ) → IsBefore (choices_of i s) q p → Deleted s q) where
+module _ (i : Spa) (m : List (Option ℕ)) (Deleted : ℕ → ℕ → Type 0) (holds : IsProvisional i m Deleted) (s p : ℕ) (in_range : s < length m)
+    (free : project_of m s ≡ None) (on : IsAcceptable i s p) (first : (q : ℕ) → IsBefore (choices_of i s) q p → Deleted s q) where
   pub put_on : (x q : ℕ) → project_of (set m s (Some p)) x ≡ Some q → IsAcceptable i x q
-  put_on x q e = elim (put_cases i m s p in_range free x q e) [ inl new ↦ rw (new.0, new.1) on | inr old ↦ holds.matching.acceptable x q old ]
+  put_on x q e = elim (put_cases i m s p in_range free x q e) [
+    | inl new ↦ rw
+        (new.0, new.1) on
+    | inr old ↦ holds.matching.acceptable x q old
+  ]
 
   put_first : (x better q : ℕ) → project_of (set m s (Some p)) x ≡ Some q → IsBefore (choices_of i x) better q
       → Deleted x better
-  put_first x better q e h = elim (put_cases i m s p in_range free x q e) [ inl new ↦ rw new.0 (first better (rw (new.0, new.1) at h)) | inr old ↦ holds.first x better q old h ]
+  put_first x better q e h = elim (put_cases i m s p in_range free x q e) [
+    | inl new ↦ rw new.0
+        (first better (rw (new.0, new.1) at h))
+    | inr old ↦ holds.first x better q old h
+  ]
 
   -- PLACE: the project and its lecturer have room
   pub place_holds : at_project m p < capacity_of i p → at_lecturer i m (lecturer_of i p) < limit_of i (lecturer_of i p)
@@ -217,23 +253,38 @@ module _ (i : Spa) (m : List (Option ℕ)) (Deleted : ℕ → ℕ → Type 0) (h
     matching = record {
       students = length-set m s (Some p) ∙ holds.matching.students;
       acceptable = put_on;
-      projects = one_more (at_project m) (at_project (set m s (Some p))) (capacity_of i) p (λ q. omega (arith, put_at_project i m s p in_range free q)) room holds.matching.projects;
-      lecturers = one_more (at_lecturer i m) (at_lecturer i (set m s (Some p))) (limit_of i) (lecturer_of i p) (λ l. omega (arith, put_at_lecturer i m s p in_range free l)) room_l holds.matching.lecturers;
+      projects = one_more (at_project m) (at_project (set m s (Some p))) (capacity_of i) p
+          (λ q. omega (arith, put_at_project i m s p in_range free q)) room holds.matching.projects;
+      lecturers = one_more (at_lecturer i m) (at_lecturer i (set m s (Some p))) (limit_of i) (lecturer_of i p)
+          (λ l. omega (arith, put_at_lecturer i m s p in_range free l)) room_l holds.matching.lecturers;
     };
     first = put_first;
     spent = λ t u gone. elim (holds.spent t u gone) [
       | inl lecturer ↦ elim (cases_eq (lecturer_of i p) (lecturer_of i u)) [
         | inl same ↦ absurd (omega (arith, lecturer.full, rw same at room_l))
         | inr other ↦ inl (record {
-          full = omega (arith, put_at_lecturer i m s p in_range free (lecturer_of i u), none_there (lecturer_of i p) (lecturer_of i u) other, lecturer.full);
-          before = λ x q e own. elim (put_cases i m s p in_range free x q e) [ inl new ↦ absurd (other (rw new.1 at own)) | inr old ↦ lecturer.before x q old own ];
+          full = omega (
+            arith,
+            put_at_lecturer i m s p in_range free (lecturer_of i u),
+            none_there (lecturer_of i p) (lecturer_of i u) other,
+            lecturer.full,
+          );
+          before = λ x q e own. elim (put_cases i m s p in_range free x q e) [
+            | inl new ↦ absurd
+                (other (rw new.1 at own))
+            | inr old ↦ lecturer.before x q old own
+          ];
         })
       ]
       | inr project ↦ elim (cases_eq p u) [
         | inl same ↦ absurd (omega (arith, project.full, rw same at room))
         | inr other ↦ inr (record {
           full = omega (arith, put_at_project i m s p in_range free u, none_there p u other, project.full);
-          before = λ x e. elim (put_cases i m s p in_range free x u e) [ inl new ↦ absurd (other (sym new.1)) | inr old ↦ project.before x old ];
+          before = λ x e. elim (put_cases i m s p in_range free x u e) [
+            | inl new ↦ absurd
+                (other (sym new.1))
+            | inr old ↦ project.before x old
+          ];
         })
       ]
     ];
@@ -255,11 +306,22 @@ module _ (i : Spa) (m : List (Option ℕ)) (Deleted : ℕ → ℕ → Type 0) (h
 
     count : (q : ℕ)
         → at_project (set (set m s (Some p)) w None) q + one_if (eqb u q) ≡ at_project m q + one_if (eqb p q)
-    count q = omega (arith, count_by-set (is_project q) (set m s (Some p)) w None w_in_range, ap (λ o. one_if (is_project q o)) has, put_at_project i m s p in_range free q)
+    count q = omega (
+      arith,
+      count_by-set (is_project q) (set m s (Some p)) w None w_in_range,
+      ap (λ o. one_if (is_project q o)) has,
+      put_at_project i m s p in_range free q,
+    )
 
     count_l : (l : ℕ) → at_lecturer i (set (set m s (Some p)) w None) l ≡ at_lecturer i m l
     count_l l =
-        omega (arith, count_by-set (is_lecturer i l) (set m s (Some p)) w None w_in_range, ap (λ o. one_if (is_lecturer i l o)) has, put_at_lecturer i m s p in_range free l, ap (λ k. one_if (eqb k l)) own)
+        omega (
+          arith,
+          count_by-set (is_lecturer i l) (set m s (Some p)) w None w_in_range,
+          ap (λ o. one_if (is_lecturer i l o)) has,
+          put_at_lecturer i m s p in_range free l,
+          ap (λ k. one_if (eqb k l)) own,
+        )
 
     let_go : ((q : ℕ) → at_project (set (set m s (Some p)) w None) q ≤ capacity_of i q)
         → ((t v : ℕ) → Deleted t v → IsSpent i (set (set m s (Some p)) w None) t v)
@@ -300,14 +362,19 @@ module _ (i : Spa) (m : List (Option ℕ)) (Deleted : ℕ → ℕ → Type 0) (h
       | inr project ↦ inr (record {
         full = omega (arith, count w p has refl u, project.full);
         before = λ x e. let c = cases w p has refl x u e in elim c.2 [
-          | inl new ↦ rw new.0 (omega (arith, project.before w (was w p has refl (λ same. c.0 (new.0 ∙ sym same)) ∙ ap Some (sym new.1)), rw (sym new.1) at s_worst))
+          | inl new ↦ rw new.0 (omega (
+            arith,
+            project.before w (was w p has refl (λ same. c.0 (new.0 ∙ sym same)) ∙ ap Some (sym new.1)),
+            rw (sym new.1) at s_worst,
+          ))
           | inr old ↦ project.before x old
         ];
       })
     ]),
     record {
       full = omega (arith, count w p has refl p, full);
-      before = λ x e. let c = cases w p has refl x p e in stands_before (ranking_of i (lecturer_of i p)) x w (lawful.ranked x p (put_on x p c.1)) c.0 (worst x c.1);
+      before = λ x e. let c = cases w p has refl x p e in
+          stands_before (ranking_of i (lecturer_of i p)) x w (lawful.ranked x p (put_on x p c.1)) c.0 (worst x c.1);
     },
   ) where
     s_worst : rank_of i (lecturer_of i p) s ≤ rank_of i (lecturer_of i p) w
@@ -317,18 +384,22 @@ module _ (i : Spa) (m : List (Option ℕ)) (Deleted : ℕ → ℕ → Type 0) (h
   pub swap_at_lecturer_holds : IsRanked i → (w u : ℕ) → at_project m p < capacity_of i p
       → at_lecturer i m (lecturer_of i p) ≡ limit_of i (lecturer_of i p)
       → project_of (set m s (Some p)) w ≡ Some u → lecturer_of i u ≡ lecturer_of i p
-      → ((x q : ℕ) → project_of (set m s (Some p)) x ≡ Some q → lecturer_of i q ≡ lecturer_of i p → rank_of i (lecturer_of i p) x ≤ rank_of i (lecturer_of i p) w)
+      → ((x q : ℕ) → project_of (set m s (Some p)) x ≡ Some q → lecturer_of i q ≡ lecturer_of i p
+      → rank_of i (lecturer_of i p) x ≤ rank_of i (lecturer_of i p) w)
       → IsProvisional i (set (set m s (Some p)) w None) Deleted × LecturerSpent i (set (set m s (Some p)) w None) (lecturer_of i u) w
   swap_at_lecturer_holds lawful w u room full has own worst = (
     let_go w u has own
-        (one_more (at_project m) (at_project (set (set m s (Some p)) w None)) (capacity_of i) p (λ q. omega (arith, count w u has own q)) room holds.matching.projects)
+        (one_more (at_project m) (at_project (set (set m s (Some p)) w None)) (capacity_of i) p
+        (λ q. omega (arith, count w u has own q)) room holds.matching.projects)
         (λ t v gone. elim (holds.spent t v gone) [
           | inl lecturer ↦ inl (still_spent w u has own (worst s p s_has refl) v t lecturer)
           | inr project ↦ elim (cases_eq p v) [
             | inl same ↦ absurd (omega (arith, project.full, rw same at room))
             | inr other ↦ elim (cases_eq u v) [
               | inl left ↦
-                  let w_had : project_of m w ≡ Some v = was w u has own (λ e. let now : Some p ≡ Some u = sym s_has ∙ (rw e at has) in other (let same : p ≡ u = cc in same ∙ left)) ∙ ap Some left in
+                  let w_had : project_of m w ≡ Some v = was w u has own
+                  (λ e. let now : Some p ≡ Some u = sym s_has ∙ (rw e at has) in other (let same : p ≡ u = cc in same ∙ left))
+                  ∙ ap Some left in
                   let of_v : lecturer_of i v ≡ lecturer_of i p = ap (lecturer_of i) (sym left) ∙ own in
                   inl (record {
                     full = omega (arith, count_l w u has own (lecturer_of i v), rw (sym of_v) at full);
@@ -336,7 +407,11 @@ module _ (i : Spa) (m : List (Option ℕ)) (Deleted : ℕ → ℕ → Type 0) (h
                   })
               | inr apart ↦ inr (record {
                 full = omega (arith, count w u has own v, none_there p v other, none_there u v apart, project.full);
-                before = λ x e. elim ((cases w u has own x v e).2) [ inl new ↦ absurd (other (sym new.1)) | inr old ↦ project.before x old ];
+                before = λ x e. elim ((cases w u has own x v e).2) [
+                  | inl new ↦ absurd
+                      (other (sym new.1))
+                  | inr old ↦ project.before x old
+                ];
               })
             ]
           ]
@@ -346,7 +421,8 @@ module _ (i : Spa) (m : List (Option ℕ)) (Deleted : ℕ → ℕ → Type 0) (h
       before = λ x q e there.
           let c = cases w u has own x q e in
           let mine : lecturer_of i q ≡ lecturer_of i p = there ∙ own in
-          rw own (stands_before (ranking_of i (lecturer_of i p)) x w (rw mine at (lawful.ranked x q (put_on x q c.1))) c.0 (worst x q c.1 mine));
+          rw own (stands_before (ranking_of i (lecturer_of i p)) x w (rw mine at (lawful.ranked x q (put_on x q c.1))) c.0
+          (worst x q c.1 mine));
     },
   ) where
     s_has : project_of (set m s (Some p)) s ≡ Some p

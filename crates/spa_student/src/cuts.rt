@@ -8,7 +8,7 @@ ghost use Rattle.spa_model.specs.Spa.{IsWith, IsAcceptable, choices_of, project_
 ghost use Rattle.spa_model.specs.Spa.{ranking_of};
 ghost use Rattle.spa_student.specs.inner.Cuts.{IsPastCut, IsUncut, IsUnderWay, AreCounts, AreMarks};
 ghost use Rattle.spa_student.specs.inner.Cuts.{IsNextEntry, IsTallied, KeepsCuts, Puts, Leaves, LetsGoAt};
-ghost use Rattle.spa_student.specs.inner.Cuts.{LetsGoWith, Exchanges};
+ghost use Rattle.spa_student.specs.inner.Cuts.{LetsGoByLecturer, Exchanges};
 ghost use Rattle.spa_student.specs.inner.Machine.{rank_of};
 ghost use Rattle.spa_student.specs.inner.Worst.{IsWorstAt, IsWorstWith};
 
@@ -172,14 +172,15 @@ impl Progress {
         w
     }
 
-    /// Removes and returns the lecturer's worst student. The cut moves to the student's position.
-    fn let_go_with(&mut self, instance: &Instance, p: usize) -> usize
+    /// Removes and returns the worst student of the project's lecturer, whose cut moves to the
+    /// student's position.
+    fn let_go_by_lecturer(&mut self, instance: &Instance, p: usize) -> usize
         requires tallied { IsTallied instance.now self.old }
         requires uncut { IsUncut instance.now self.old }
         requires in_range { p < length instance.now.lecturers }
         requires some { (s : ℕ) × IsWith instance.now self.old.projects.items
             (lecturer_of instance.now p) s }
-        ensures { LetsGoWith instance.now p result self.old self.new }
+        ensures { LetsGoByLecturer instance.now p result self.old self.new }
     {
         let l = instance.lecturer_of(p);
         let rank = self.worst_with(instance, p);
@@ -222,7 +223,7 @@ impl Progress {
             return Some(self.let_go_at(instance, p));
         }
         if self.lecturer_counts[l] > instance.lecturer_capacity(l) as usize {
-            return Some(self.let_go_with(instance, p));
+            return Some(self.let_go_by_lecturer(instance, p));
         }
         None
     }

@@ -5,7 +5,7 @@ use Rattle.portal_rules.specs.declared.phase.Round.TheVariants.{Second}
 use Rattle.portal_rules.specs.Words.{Key}
 use Rattle.portal_rules.specs.World.{World, Choices, Ranks, changed}
 use Rattle.portal_rules.specs.View.{view}
-use Rattle.portal_rules.specs.Sight.{AbstractCall}
+use Rattle.portal_rules.specs.Calls.{AbstractCall}
 use Rattle.portal_rules.specs.Answer.{Answer, answer}
 use Rattle.portal_rules.specs.Run.{Request, Calls, Run, AllAnswered, unavailable}
 use Rattle.portal_rules.specs.Heard.{Heard, HeardItem, Asked, replies_to}

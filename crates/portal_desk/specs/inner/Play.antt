@@ -3,8 +3,8 @@ use Rattle.std.specs.Prelude.{◌≡◌, ℕ, List, Option}
 use Rattle.spa_model.specs.Spa.{Spa, IsBest}
 use Rattle.portal_rules.specs.Words.{Key}
 use Rattle.portal_rules.specs.World.{World, changed}
-use Rattle.portal_rules.specs.Bodies.{csv_text, report_text}
-use Rattle.portal_rules.specs.Sight.{OfficeSees}
+use Rattle.portal_rules.specs.Bodies.{csv_text, result_text}
+use Rattle.portal_rules.specs.Calls.{OfficeSees}
 use Rattle.portal_rules.specs.declared.view.View.{View as Sight}
 use Rattle.portal_rules.specs.declared.view.View.TheVariants.{Office}
 use Rattle.portal_rules.specs.declared.decision.Sheet.{Sheet}
@@ -28,7 +28,7 @@ IsSolved i pairs =
 -- the text of a sheet
 abbrev pub sheet_text : OfficeSees → Sheet → Said
 sheet_text v sheet.Csv = Csv (csv_text v)
-sheet_text v sheet.Report = Plain (report_text v)
+sheet_text v sheet.Report = Plain (result_text v)
 
 -- the reply with its sheet written, where the office is given one
 abbrev pub with_sheet : Sight → Act → Answer → Answer

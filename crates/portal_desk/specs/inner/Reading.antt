@@ -6,7 +6,7 @@ use Rattle.portal_desk.specs.declared.served.Cause.TheVariants as cause
 use Rattle.portal_desk.specs.Kept.{TakesAtMost}
 use Rattle.portal_frame.specs.declared.types.Frame.{Frame}
 use Rattle.portal_frame.specs.declared.types.Frame.TheVariants as frame
-use Rattle.portal_frame.specs.Stream.{RequestContent, Opens, whole, fault, over, request_content, refusal_content}
+use Rattle.portal_frame.specs.Stream.{RequestContent, Opens, Whole, Faulty, Over, request_content, refusal_content}
 use Rattle.portal_frame.specs.Stream.{request_limit}
 
 -- the buffer and what the source has left are still the stream; at the end nothing is left
@@ -38,10 +38,10 @@ pub record IsFailedRead (old new : Option (List ℕ)) (before after : List ℕ) 
 -- what the stream opens with, where the first bytes of it are in the buffer
 abbrev pub Heads : List ℕ → List ℕ → List ℕ → Frame → Type 0
 Heads stream buffer rest frame.Need = ⊥
-Heads stream buffer rest frame.End = Opens stream over
+Heads stream buffer rest frame.End = Opens stream Over
 Heads stream buffer rest (frame.Request request used) =
-    Opens stream (whole (request_content request) (drop used buffer ++ rest))
-Heads stream buffer rest (frame.Bad refusal head_only) = Opens stream (fault (refusal_content refusal) head_only)
+    Opens stream (Whole (request_content request) (drop used buffer ++ rest))
+Heads stream buffer rest (frame.Bad refusal head_only) = Opens stream (Faulty (refusal_content refusal) head_only)
 
 -- a request's bytes are in the buffer, and no more than the longest request
 abbrev pub IsWithin : List ℕ → Frame → Type 0
@@ -58,4 +58,4 @@ pub record Follows (old new : Option (List ℕ)) (before after : List ℕ) (foun
 
 -- no request stands whole there
 abbrev pub NoneWhole : List ℕ → Type 0
-NoneWhole bytes = (a : RequestContent) → (after : List ℕ) → ¬ (Opens bytes (whole a after))
+NoneWhole bytes = (a : RequestContent) → (after : List ℕ) → ¬ (Opens bytes (Whole a after))

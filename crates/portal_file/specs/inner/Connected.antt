@@ -1,5 +1,5 @@
 -- What work over a connection to the portal's tables finds and leaves.
-use Rattle.std.specs.Prelude.{◌≡◌, List, Option, None, IfSome, IsTrue}
+use Rattle.std.specs.Prelude.{◌≡◌, None, IsTrue}
 use Rattle.sqlite.specs.State.{State}
 use Rattle.sqlite.specs.Store.{Ghosts}
 use Rattle.sqlite.specs.Held.{Held, state}
@@ -8,14 +8,8 @@ use Rattle.sqlite.specs.Tree.{Trees}
 use Rattle.portal_rules.specs.World.{World}
 use Rattle.portal_tables.specs.Tables.{no_schema}
 use Rattle.portal_tables.specs.Steps.{LeavesOnly}
-use Rattle.portal_store.specs.Kept.{IsConsistent, Seen, IsCleanStore, LeavesConsistent}
-use Rattle.portal_wire.specs.Conversation.{Exchange}
-use Rattle.portal_desk.specs.Session.{TellsExchanges}
-use Rattle.portal_file.specs.Tables.{Version, Either, Stands, Stream, IsTurn, Work}
-
--- what is written tells the requests, if the bytes are known
-abbrev pub TellsIn : Option Stream → List Exchange → Type 0
-TellsIn stream es = IfSome stream (λ s. TellsExchanges s.finish s.bytes es s.written)
+use Rattle.portal_store.specs.Kept.{IsConsistent, StoreState, IsCleanStore, LeavesConsistent}
+use Rattle.portal_file.specs.Tables.{Version, Either, Stands, IsTurn, FileEffect}
 
 -- the trees are those of a database that stands so for the world
 abbrev pub TreesStand : Version → Trees → World → Type 0
@@ -31,7 +25,7 @@ abbrev pub AllStand : Version → (Trees → Type 0) → (World → Type 0) → 
 AllStand version Finds Kind = (db : Trees) → Finds db → ∥ ((w : World) × Kind w × TreesStand version db w) ∥₁
 
 -- what a store promises of the connection that it gives back
-pub record ClosesAs {S : Type 0} (g : Ghosts S) (s : Seen S) (new : Held S) : Type 0 where
+pub record ClosesAs {S : Type 0} (g : Ghosts S) (s : StoreState S) (new : Held S) : Type 0 where
   pub same : new ≡ s.conn
   pub kept : IsCleanStore g s → IsConsistent (state g new).now
   pub only : IsTrue (state g new).is_open → LeavesOnly (state g new)
@@ -43,7 +37,7 @@ pub record IsUnlimited (s : State) : Type 0 where
   pub unlimited : s.step_limit ≡ None
 
 -- work over a connection: what it shows before, and what a stop after it may leave
-abbrev pub work_of : State → State → Work
+abbrev pub work_of : State → State → FileEffect
 work_of old new = record {
   finds = λ version. Shows version old;
   is_new = old.now.schema ≡ no_schema;

@@ -9,8 +9,11 @@ frame_head-requires c =
     let e = rw c.in-Ok-Complete.field-0-is at c.in-Ok-Complete.ensures.complete in
     let w = rw c.in-Ok-Complete.field-0-is at c.in-Ok-Complete.ensures.within in
     let n = c.min.result in
-    let bytes = c.args.bytes.now in
-    (e.0, head_of bytes (take n bytes) (drop n bytes) _ c.in-Ok-Complete.spans e.0 (take-append-drop n bytes) (length_front n bytes c.min.ensures) (search rules) e.1 w)
+    let bytes = c.args.bytes.now in (
+      e.0,
+      head_of bytes (take n bytes) (drop n bytes) _ c.in-Ok-Complete.spans e.0 (take-append-drop n bytes)
+          (length_front n bytes c.min.ensures) (search rules) e.1 w,
+    )
 
 pub frame_open-requires-clause-none : goal.frame_open-requires-clause-none
 frame_open-requires-clause-none c =
@@ -33,7 +36,8 @@ frame_open-requires-in-TooManyHeaders-clause-none c =
 
 pub frame_open-requires-in-TooManyHeaders-clause-full : goal.frame_open-requires-in-TooManyHeaders-clause-full
 frame_open-requires-in-TooManyHeaders-clause-full c =
-    λ _ more. none_ever c.args.bytes.now more (overflows_all _ (subst (RequestOverflows 32) (front_is _ _ c.min.ensures) c.in-Err.ensures.no_room))
+    λ _ more. none_ever c.args.bytes.now more
+    (overflows_all _ (subst (RequestOverflows 32) (front_is _ _ c.min.ensures) c.in-Err.ensures.no_room))
 
 pub frame_open-requires-in-TooManyHeaders-clause-may : goal.frame_open-requires-in-TooManyHeaders-clause-may
 frame_open-requires-in-TooManyHeaders-clause-may c =
@@ -44,6 +48,7 @@ pub returns-in_default : goal.returns-in_default
 returns-in_default c = record {
   framed = λ more _. rw c.refusal.ensures (opens_never c.args.bytes.now more
       (overflows_all _ (subst (RequestOverflows 32) (front_is _ _ c.min.ensures) c.in-Err.ensures.no_room)));
-  due = inr (inr (inr (inr (subst NeverHasRequest (front_is _ _ c.min.ensures) (c.in-Err.ensures.invalid c.in_default.not-TooManyHeaders)))));
+  due = inr (inr (inr (inr (subst NeverHasRequest (front_is _ _ c.min.ensures)
+      (c.in-Err.ensures.invalid c.in_default.not-TooManyHeaders)))));
   limits = tt;
 }

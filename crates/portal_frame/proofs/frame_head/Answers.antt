@@ -8,7 +8,8 @@ returns-clause-framed c more =
     let h = c.requires.0 in
     let x = c.requires.1 in
     let sized : body_length h.minor (fields_of h) ≡ Ok c.in-Ok.n = rw (← x.version, ← x.lines) (sym c.check_lines.ensures ∙ c.in-Ok.is) in
-    let enough : c.in-Ok.n ≤ length (drop c.args.spans.len c.args.bytes.now) = rw (sym c.split_at.ensures.back) (omega (arith, c.if-rest-n.false)) in
+    let enough : c.in-Ok.n ≤ length (drop c.args.spans.len c.args.bytes.now) =
+    rw (sym c.split_at.ensures.back) (omega (arith, c.if-rest-n.false)) in
     rw (
       c.in_ok-from_slice.ensures.items,
       c.of-method.ensures,

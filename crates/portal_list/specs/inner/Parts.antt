@@ -9,6 +9,7 @@ use Rattle.portal_rules.specs.declared.rows.LecturerRow.{LecturerRow}
 use Rattle.portal_rules.specs.declared.rows.ProjectRow.{ProjectRow}
 use Rattle.portal_rules.specs.declared.rows.StudentRow.{StudentRow}
 use Rattle.portal_rules.specs.Words.{is_code, Key, has, Rise, AreDistinct}
+use Rattle.spa_rows.specs.Limits.{most_lecturers, most_projects, most_students}
 use Rattle.spa_model.specs.Spa.{IsStable}
 use Rattle.portal_rules.specs.Good.{instance, matching_of, IsLecturer, IsProject, IsStudent, IsChoice, IsRanking}
 use Rattle.portal_rules.specs.World.{World, Lecturer, Student, project_key, student_key, is_setup, is_published}
@@ -31,9 +32,9 @@ pub record KeysRise (lecturers : List LecturerRow) (projects : List ProjectRow) 
   pub students_rise : Rise (student_row_keys students)
 
 pub record AreFew (lecturers : List LecturerRow) (projects : List ProjectRow) (students : List StudentRow) : Type 0 where
-  pub few_lecturers : length lecturers ≤ 300
-  pub few_projects : length projects ≤ 1000
-  pub few_students : length students ≤ 2000
+  pub few_lecturers : length lecturers ≤ most_lecturers
+  pub few_projects : length projects ≤ most_projects
+  pub few_students : length students ≤ most_students
 
 pub record RollsFit (office : Key) (lecturers : List LecturerRow) (projects : List ProjectRow) (students : List StudentRow) : Type 0 where
   pub rise : KeysRise lecturers projects students

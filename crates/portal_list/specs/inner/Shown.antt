@@ -1,4 +1,4 @@
--- What is read of lists of rows.
+-- What is shown of rows: applicants, placements, who is still to rank, the catalogue.
 use Rattle.std.specs.Prelude.{Bool, if◌then◌else◌, ◌&&◌, List, [], map, filter, is_none}
 use Rattle.std.specs.List.{list_any}
 use Rattle.portal_rules.specs.Words.{Key, equals, has}

@@ -6,7 +6,8 @@ ghost use Rattle.portal_rules.specs.World.{new_lecturer, new_student};
 
 use crate::entries::{LecturerEntry, StudentEntry};
 use crate::keys::put_rows;
-use portal_rules::{Keyed, LecturerRow, StudentRow, try_map};
+use portal_rules::collecting::try_map;
+use portal_rules::{Keyed, LecturerRow, StudentRow};
 use std::alloc::{AllocError, Global};
 
 /// Makes the entries of new lecturers, without rankings.

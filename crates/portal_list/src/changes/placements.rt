@@ -6,7 +6,8 @@ ghost use Rattle.portal_list.specs.inner.Played.{placed_now};
 
 use crate::copies::place_copy;
 use crate::entries::StudentEntry;
-use portal_rules::{Pairs, try_map};
+use portal_rules::collecting::try_map;
+use portal_rules::index::Pairs;
 use spa_rows::Key;
 use std::alloc::{AllocError, Global};
 

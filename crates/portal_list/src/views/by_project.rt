@@ -9,7 +9,8 @@ ghost use Rattle.portal_list.specs.inner.Shown.{applicants_shown, placements_sho
 use super::placements::placement_shown;
 use crate::copies::{holds, person_of};
 use crate::entries::StudentEntry;
-use portal_rules::{Person, Phase, ProjectRow, try_map_where};
+use portal_rules::collecting::try_map_where;
+use portal_rules::{Person, Phase, ProjectRow};
 use spa_rows::Key;
 use std::alloc::{AllocError, Global};
 

@@ -9,7 +9,8 @@ ghost use Rattle.portal_list.specs.inner.Shown.{is_wanted, is_waiting};
 use crate::copies::holds;
 use crate::entries::{LecturerEntry, StudentEntry};
 use crate::second_round::takes_part;
-use portal_rules::{LecturerRow, ProjectRow, Round, StudentRow, try_map, try_map_where};
+use portal_rules::collecting::{try_map, try_map_where};
+use portal_rules::{LecturerRow, ProjectRow, Round, StudentRow};
 use spa_rows::Key;
 use std::alloc::{AllocError, Global};
 

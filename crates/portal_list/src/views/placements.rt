@@ -5,7 +5,8 @@ ghost use Rattle.portal_rules.specs.World.{shown_placement, pairs_with};
 
 use crate::copies::pair_copy;
 use crate::entries::StudentEntry;
-use portal_rules::{Phase, try_filter_map};
+use portal_rules::Phase;
+use portal_rules::collecting::try_filter_map;
 use spa_rows::Key;
 use std::alloc::{AllocError, Global};
 

@@ -8,7 +8,7 @@ use Rattle.portal_rules.specs.Words.{Key}
 use Rattle.portal_rules.specs.World.{World, Student, Lecturer, Choices, Ranks, Placements, SecondRound, changed}
 use Rattle.portal_rules.specs.World.{new_student, new_lecturer}
 use Rattle.portal_rules.specs.View.{view}
-use Rattle.portal_rules.specs.Sight.{AbstractCall}
+use Rattle.portal_rules.specs.Calls.{AbstractCall}
 use Rattle.portal_rules.specs.Bodies.{dictionary, several, texts, count}
 use Rattle.portal_rules.specs.Answer.{Answer, Said, Csv, Plain, answer, answered}
 

@@ -9,7 +9,7 @@ use Rattle.std.specs.HashSet.{HashSet}
 use Rattle.spa_rows.specs.inner.Index.{text_eq}
 use Rattle.portal_rules.specs.declared.rows.ProjectRow.{ProjectRow}
 use Rattle.portal_rules.specs.Words.{Key, equals, has}
-use Rattle.portal_rules.specs.Sight.{OfficeSees}
+use Rattle.portal_rules.specs.Calls.{OfficeSees}
 
 -- the table has just these texts
 abbrev pub HasTexts : {S : Type 0} → List Key → HashSet (Bor Key) S → Type 0

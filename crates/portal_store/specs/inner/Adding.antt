@@ -1,8 +1,8 @@
 -- New rows of a roll.
 use Rattle.portal_rules.specs.World.{Change}
 use Rattle.portal_rules.specs.World as changes
-use Rattle.portal_store.specs.declared.add_rows.NewRows.{NewRows}
-use Rattle.portal_store.specs.declared.add_rows.NewRows.TheVariants.{Lecturers, Projects, Students}
+use Rattle.portal_store.specs.declared.changing.add_rows.NewRows.{NewRows}
+use Rattle.portal_store.specs.declared.changing.add_rows.NewRows.TheVariants.{Lecturers, Projects, Students}
 
 -- the change of the world that they are
 abbrev pub with_rows_added : NewRows → Change

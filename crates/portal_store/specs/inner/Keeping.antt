@@ -10,14 +10,14 @@ use Rattle.sqlite.specs.Held.{Held, held_code, state}
 use Rattle.portal_rules.specs.declared.phase.Round.{Round}
 use Rattle.portal_rules.specs.World.{World, Change, changed}
 use Rattle.portal_rules.specs.Good.{Good}
-use Rattle.portal_rules.specs.inner.ViewCache.{IsCacheOf}
-use Rattle.portal_rules.specs.declared.view_cache.ViewCache.{ViewCache}
+use Rattle.portal_store.specs.inner.ViewCache.{IsCacheOf}
+use Rattle.portal_store.specs.declared.reading.view_cache.ViewCache.{ViewCache}
 use Rattle.portal_list.specs.Rows.{AllEntries, HasEntries}
 use Rattle.portal_tables.specs.Tables.{lecturer_tree, project_tree, student_tree, choice_tree, later_trees}
 use Rattle.portal_tables.specs.Tables.{ranking_tree}
 use Rattle.portal_tables.specs.Rows.{RowNumbersDiffer}
 use Rattle.portal_store.specs.World.{world_in, world_of}
-use Rattle.portal_store.specs.Kept.{AreConsistent, HasDisk, IsCleanStore, IsConsistentIn, IsConsistent, Seen}
+use Rattle.portal_store.specs.Kept.{AreConsistent, HasDisk, IsCleanStore, IsConsistentIn, IsConsistent, StoreState}
 
 -- the tables of many rows: the rolls and the lists of the first round, and the lists and places of
 -- the second
@@ -33,7 +33,7 @@ abbrev pub AllNumbersDiffer : List ℕ → Trees → Type 0
 AllNumbersDiffer trees db = AllByRecursion (λ t. RowNumbersDiffer (db t)) trees
 
 -- if the disk is clean after a call, it was before, and then a clean store stayed clean
-abbrev pub KeepsClean : {S : Type 0} → Ghosts S → Seen S → Seen S → Type 0
+abbrev pub KeepsClean : {S : Type 0} → Ghosts S → StoreState S → StoreState S → Type 0
 KeepsClean g old new = HasDisk g new → HasDisk g old × (IsCleanStore g old → IsCleanStore g new)
 
 -- the same of tables that stay in their round
@@ -54,7 +54,7 @@ abbrev pub IsTransitionFrom : Round → Change → Database → Database → Typ
 IsTransitionFrom round change old new =
     IsConsistentIn round old → Good (world_in round old.trees) → Good (changed (world_in round old.trees) change) → HasChangedFrom round change old new
 
-abbrev pub seen_code : {S : Type 0} → Coded S → Coded (Seen S)
+abbrev pub seen_code : {S : Type 0} → Coded S → Coded (StoreState S)
 seen_code {S} store =
     code_by (Held S × (Bool × ℕ)) (coded× (held_code store) (coded× coded_bool coded_ℕ)) (λ s. (s.conn, (s.own, s.faults)))
     (λ p. record { conn = p.0; own = p.1.0; faults = p.1.1 })

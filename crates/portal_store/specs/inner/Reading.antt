@@ -8,8 +8,8 @@ use Rattle.sqlite.specs.Store.{Ghosts}
 use Rattle.sqlite.specs.Tree.{Trees}
 use Rattle.portal_rules.specs.declared.phase.Round.{Round}
 use Rattle.portal_rules.specs.World.{World}
-use Rattle.portal_rules.specs.inner.ViewCache.{IsCacheOf}
-use Rattle.portal_rules.specs.declared.view_cache.ViewCache.{ViewCache}
+use Rattle.portal_store.specs.inner.ViewCache.{IsCacheOf}
+use Rattle.portal_store.specs.declared.reading.view_cache.ViewCache.{ViewCache}
 use Rattle.portal_rules.specs.Good.{Good}
 use Rattle.portal_list.specs.Rows.{AllEntries}
 use Rattle.portal_tables.specs.inner.Changes.{every}

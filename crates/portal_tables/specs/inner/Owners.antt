@@ -1,14 +1,14 @@
 -- The lists that the tables hold of the owners whose rows are shown.
 use Rattle.std.specs.Prelude.{◌≡◌, ◌==◌, if◌then◌else◌}
 use Rattle.portal_tables.specs.inner.Base.{Vec, true, false, Bool, List, [], Option, Some, None, map, filter_map}
-use Rattle.portal_tables.specs.inner.Base.{AllByRecursion, Global, Row, column, Trees, Round, number_in, is_key, Key}
+use Rattle.portal_tables.specs.inner.Base.{AllByRecursion, Global, Row, column, Trees, Round, First, Second, number_in, is_key, Key}
 use Rattle.portal_tables.specs.inner.Base.{has, Rise}
 pub use Rattle.portal_tables.specs.Tables.{tree_of}
-use Rattle.portal_tables.specs.Tables.{choice_table, ranking_table, ranked2_tree}
+use Rattle.portal_tables.specs.Tables.{ranked2_tree}
 use Rattle.portal_tables.specs.Rows.{row_key, IsWhole, by_place, chosen, named_by, of_key}
 use Rattle.portal_tables.specs.inner.Shown.{first_cell}
 use Rattle.portal_tables.specs.declared.list_table.Lists.{Lists}
-use Rattle.portal_tables.specs.declared.list_table.Lists.TheVariants.{Choices, Rankings, SecondChoices, SecondRankings}
+use Rattle.portal_tables.specs.declared.list_table.Lists.TheVariants.{Choices, Rankings}
 
 -- the items of an owner's rows, in the order of their places
 abbrev pub list_in_order : List Row → List Key
@@ -17,10 +17,9 @@ list_in_order rows = map named_by (by_place rows)
 -- Each student has a list. A lecturer has one where a ranking is there: in the first round the own
 -- row says so, in the second a row of `ranked2`.
 abbrev pub has_list : Lists → Trees → Row → Bool
-has_list Choices db c = true
-has_list Rankings db c = number_in (column c 4) == 1
-has_list SecondChoices db c = true
-has_list SecondRankings db c = has (map row_key (db ranked2_tree)) (first_cell c)
+has_list (Choices round) db c = true
+has_list (Rankings First) db c = number_in (column c 4) == 1
+has_list (Rankings Second) db c = has (map row_key (db ranked2_tree)) (first_cell c)
 
 -- the list of the owner whose row is shown
 abbrev pub entry : Lists → Trees → Row → Option (Key × List Key)
@@ -29,10 +28,10 @@ entry lists db c = if has_list lists db c then Some (first_cell c, chosen (db (t
 -- the list of a round of the student whose row is shown, and the ranking of the lecturer, if one is
 -- there
 abbrev pub choice_shown : Round → Trees → Row → List Key
-choice_shown round db c = chosen (db (tree_of (choice_table round))) (first_cell c)
+choice_shown round db c = chosen (db (tree_of (Choices round))) (first_cell c)
 
 abbrev pub ranking_shown : Round → Trees → Row → Option (List Key)
-ranking_shown round db c = if has_list (ranking_table round) db c then Some (chosen (db (tree_of (ranking_table round))) (first_cell c)) else None
+ranking_shown round db c = if has_list (Rankings round) db c then Some (chosen (db (tree_of (Rankings round))) (first_cell c)) else None
 
 -- an owner with the list
 abbrev pub with_list : Key × Vec Key Global → Key × List Key

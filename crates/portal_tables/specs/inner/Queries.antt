@@ -1,6 +1,7 @@
 -- What each query reads of the tables, and shows.
 use Rattle.std.specs.Prelude.{◌∷◌}
 use Rattle.portal_tables.specs.inner.Base.{ℕ, List, [], Bool, Row, Trees, Round, First, InSecond}
+use Rattle.portal_tables.specs.declared.list_table.Lists.TheVariants.{Choices}
 use Rattle.portal_tables.specs.declared.select.Query.{Query}
 use Rattle.portal_tables.specs.declared.select.Query.TheVariants.{Office, Whole, LecturerByCode, StudentByCode}
 use Rattle.portal_tables.specs.declared.select.Query.TheVariants.{LecturerByKey, StudentTold, AllLists, ListOf}
@@ -14,7 +15,7 @@ use Rattle.portal_tables.specs.declared.select.Table.TheVariants.{OfRoll, OfList
 use Rattle.portal_tables.specs.Rows.{has_text}
 use Rattle.portal_tables.specs.inner.Changes.{ListsBy, every, columns, has_number}
 use Rattle.portal_tables.specs.inner.Texts.{round_of}
-use Rattle.portal_tables.specs.Tables.{tree_of, choice_table, portal_tree, lecturer_tree, project_tree, student_tree}
+use Rattle.portal_tables.specs.Tables.{tree_of, portal_tree, lecturer_tree, project_tree, student_tree}
 use Rattle.portal_tables.specs.Tables.{second_tree, ranked2_tree, assigned2_tree}
 
 abbrev pub roll_tree : RollTable → ℕ
@@ -77,11 +78,11 @@ selection (AllLists lists) = record { tree = tree_of lists; passes = every; by =
 selection (ListOf lists owner) =
     record { tree = tree_of lists; passes = has_text 1 owner.now; by = 2 ∷ []; shown = 2 ∷ 3 ∷ [] }
 selection (Choosers round project) =
-    record { tree = tree_of (choice_table round); passes = has_text 3 project.now; by = 1 ∷ []; shown = 1 ∷ [] }
+    record { tree = tree_of (Choices round); passes = has_text 3 project.now; by = 1 ∷ []; shown = 1 ∷ [] }
 selection (ProjectsOf lecturer) =
     record { tree = project_tree; passes = has_text 2 lecturer.now; by = 1 ∷ []; shown = 1 ∷ [] }
 selection (Listed round) =
-    record { tree = tree_of (choice_table round); passes = has_number 2 1; by = 1 ∷ []; shown = 1 ∷ [] }
+    record { tree = tree_of (Choices round); passes = has_number 2 1; by = 1 ∷ []; shown = 1 ∷ [] }
 selection FirstPlacements = record { tree = student_tree; passes = every; by = 1 ∷ []; shown = 1 ∷ 4 ∷ [] }
 selection Second = record { tree = second_tree; passes = every; by = 0 ∷ []; shown = 0 ∷ 2 ∷ [] }
 selection SecondRanked = record { tree = ranked2_tree; passes = every; by = 1 ∷ []; shown = 1 ∷ [] }

@@ -2,7 +2,8 @@
 use Rattle.std.specs.Prelude.{◌≡◌, if◌then◌else◌, ◌∷◌}
 use Rattle.portal_tables.specs.inner.Base.{ℕ, ℤ, pos, List, [], map, filter, length, Option, Some, None, flat_map}
 use Rattle.portal_tables.specs.inner.Base.{is_eq, Value, Null, Int, Words, Row, column, value_cmp, Database, IsDatabase}
-use Rattle.portal_tables.specs.inner.Base.{Ghosts, Held, state, Key, LecturerRow, ProjectRow, StudentRow, Phase}
+use Rattle.portal_tables.specs.inner.Base.{Ghosts, Held, state, Key, LecturerRow, ProjectRow, StudentRow, Phase, Round}
+use Rattle.portal_tables.specs.inner.Base.{First, Second}
 use Rattle.portal_tables.specs.declared.insert.lists.NewPlace.{NewPlace}
 use Rattle.portal_tables.specs.Tables.{portal_tree, lecturer_tree, student_tree, second_tree, IsCurrentSchema}
 use Rattle.portal_tables.specs.Running.{Ran, Made}
@@ -74,12 +75,16 @@ abbrev pub Clears : ℕ → List ℕ → Database → Database → Type 0
 Clears tree key old new =
     IsCurrentSchema old.schema → RowNumbersDiffer (old.trees tree) → Drops tree (has_text 1 key) old new
 
--- the one row of `portal` tells this phase
-abbrev pub MovesTo : ℕ → Database → Database → Type 0
-MovesTo phase old new =
+-- the row of a round's phase tells this one: of the first the one row of `portal`, of the second
+-- that of `second`
+abbrev pub MovesTo : Round → ℕ → Database → Database → Type 0
+MovesTo First phase old new =
     IsCurrentSchema old.schema → (version was : ℤ) (office : List ℕ)
     → old.trees portal_tree ≡ portal_row version was office ∷ []
     → Becomes portal_tree (portal_row version (pos phase) office) old new
+MovesTo Second phase old new =
+    IsCurrentSchema old.schema → (was : ℤ) → old.trees second_tree ≡ second_row was ∷ []
+    → Becomes second_tree (second_row (pos phase)) old new
 
 -- the one row of `portal` tells this version
 abbrev pub IsOfVersion : ℕ → Database → Database → Type 0
@@ -87,12 +92,6 @@ IsOfVersion version old new =
     IsCurrentSchema old.schema → (was phase : ℤ) (office : List ℕ)
     → old.trees portal_tree ≡ portal_row was phase office ∷ []
     → Becomes portal_tree (portal_row (pos version) phase office) old new
-
--- the one row of `second` tells this phase
-abbrev pub MovesSecond : ℕ → Database → Database → Type 0
-MovesSecond phase old new =
-    IsCurrentSchema old.schema → (was : ℤ) → old.trees second_tree ≡ second_row was ∷ []
-    → Becomes second_tree (second_row (pos phase)) old new
 
 -- the lecturer's one row says that a ranking is there
 abbrev pub MarksRanked : List ℕ → Database → Database → Type 0

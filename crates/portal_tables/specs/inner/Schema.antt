@@ -1,9 +1,10 @@
 -- The portal's schemas, written out: what the CREATE texts of `Tables` define.
-use Rattle.std.specs.Prelude.{◌∷◌, ◌++◌}
-use Rattle.portal_tables.specs.QueryTexts.{ListTable, choice_names, ranking_names, choice2_names, ranking2_names}
+use Rattle.std.specs.Prelude.{◌∷◌, ◌++◌, ◌+◌}
+use Rattle.portal_tables.specs.Tables.{ListTable, names}
+use Rattle.portal_tables.specs.declared.list_table.Lists.TheVariants.{Choices, Rankings}
 use Rattle.portal_tables.specs.inner.Base.{Binary, true, false, [], Some, None, codes, List, ℕ, pos, Bool, Option, Null}
 use Rattle.portal_tables.specs.inner.Base.{Int, Table, Schema, Kind, Integer, Text, Term, lit, col, op2, Compare, And}
-use Rattle.portal_tables.specs.inner.Base.{Or, Eq, Ge, Le, Column, Index, Reference, NoAction, Order, plain}
+use Rattle.portal_tables.specs.inner.Base.{Or, Eq, Ge, Le, First, Second, Column, Index, Reference, NoAction, Order, plain}
 
 abbrev pub column_of : List ℕ → Kind → Bool → Column
 column_of name kind required =
@@ -74,19 +75,6 @@ list_table t tree = schema_of t.name tree
     (column_of t.owner Text true ∷ column_of (codes "place") Integer true ∷ column_of t.item Text true ∷ [])
     None (1 ∷ 2 ∷ []) ((1 ∷ 2 ∷ []) ∷ (3 ∷ 1 ∷ []) ∷ []) (plain ∷ plain ∷ []) [] (refers_to 1 t.owner ∷ refers_to 3 t.item ∷ [])
 
--- the tables of students' lists and of lecturers' rankings, for each round
-abbrev pub choice : ℕ → Table
-choice = list_table choice_names
-
-abbrev pub ranking : ℕ → Table
-ranking = list_table ranking_names
-
-abbrev pub choice2 : ℕ → Table
-choice2 = list_table choice2_names
-
-abbrev pub ranking2 : ℕ → Table
-ranking2 = list_table ranking2_names
-
 abbrev pub second : ℕ → Table
 second tree = schema_of (codes "second") tree
     (column_of (codes "id") Integer true ∷ column_of (codes "phase") Integer true ∷ [])
@@ -110,24 +98,29 @@ index_of tree name table columns = record {
   is_unique = true;
 }
 
+-- those of a table of lists, in the trees after it
+abbrev pub list_indexes : ListTable → ℕ → List Index
+list_indexes t tree =
+    index_of (tree + 1) (t.name ++ codes "_1") tree (1 ∷ 2 ∷ []) ∷ index_of (tree + 2) (t.name ++ codes "_2") tree (3 ∷ 1 ∷ []) ∷ []
+
 -- the tables of version 1; trees are numbered in the order of making: a table, then its indexes
 abbrev pub first_written : Schema
 first_written = record {
-  tables = portal 0 ∷ lecturer_schema 1 ∷ project_schema 4 ∷ student_schema 6 ∷ choice 9 ∷ ranking 12 ∷ [];
+  tables = portal 0 ∷ lecturer_schema 1 ∷ project_schema 4 ∷ student_schema 6
+      ∷ list_table (names (Choices First)) 9 ∷ list_table (names (Rankings First)) 12 ∷ [];
   indexes = index_of 2 (codes "lecturer_1") 1 (1 ∷ []) ∷ index_of 3 (codes "lecturer_2") 1 (3 ∷ []) ∷ index_of 5 (codes "project_1") 4 (1 ∷ [])
       ∷ index_of 7 (codes "student_1") 6 (1 ∷ []) ∷ index_of 8 (codes "student_2") 6 (3 ∷ [])
-      ∷ index_of 10 (codes "choice_1") 9 (1 ∷ 2 ∷ []) ∷ index_of 11 (codes "choice_2") 9 (3 ∷ 1 ∷ [])
-      ∷ index_of 13 (codes "ranking_1") 12 (1 ∷ 2 ∷ []) ∷ index_of 14 (codes "ranking_2") 12 (3 ∷ 1 ∷ []) ∷ [];
+      ∷ list_indexes (names (Choices First)) 9 ++ list_indexes (names (Rankings First)) 12;
   views = [];
 }
 
 -- all tables: the five of the second round after those of the first
 abbrev pub portal_written : Schema
 portal_written = record {
-  tables = first_written.tables ++ second 15 ∷ choice2 16 ∷ ranked2 19 ∷ ranking2 21 ∷ assigned2 24 ∷ [];
-  indexes = first_written.indexes ++ index_of 17 (codes "choice2_1") 16 (1 ∷ 2 ∷ []) ∷ index_of 18 (codes "choice2_2") 16 (3 ∷ 1 ∷ [])
-      ∷ index_of 20 (codes "ranked2_1") 19 (1 ∷ [])
-      ∷ index_of 22 (codes "ranking2_1") 21 (1 ∷ 2 ∷ []) ∷ index_of 23 (codes "ranking2_2") 21 (3 ∷ 1 ∷ [])
-      ∷ index_of 25 (codes "assigned2_1") 24 (1 ∷ []) ∷ [];
+  tables = first_written.tables ++ second 15 ∷ list_table (names (Choices Second)) 16 ∷ ranked2 19
+      ∷ list_table (names (Rankings Second)) 21 ∷ assigned2 24 ∷ [];
+  indexes = first_written.indexes ++ list_indexes (names (Choices Second)) 16
+      ++ index_of 20 (codes "ranked2_1") 19 (1 ∷ []) ∷ list_indexes (names (Rankings Second)) 21
+      ++ index_of 25 (codes "assigned2_1") 24 (1 ∷ []) ∷ [];
   views = [];
 }

@@ -17,18 +17,6 @@ pub struct NewPlace<'a> {
     pub item: &'a [u8],
 }
 
-/// The statement that inserts eight rows into these three columns.
-macro_rules! insert_eight {
-    ($into:literal) => {
-        concat!(
-            "INSERT INTO ",
-            $into,
-            " VALUES (?1, ?2, ?3), (?4, ?5, ?6), (?7, ?8, ?9), (?10, ?11, ?12), \
-             (?13, ?14, ?15), (?16, ?17, ?18), (?19, ?20, ?21), (?22, ?23, ?24)"
-        )
-    };
-}
-
 impl<'a> Target<NewPlace<'a>> for Lists {
     ghost tree = { tree_of };
 
@@ -39,27 +27,13 @@ impl<'a> Target<NewPlace<'a>> for Lists {
     fn text<S: Alter>(&self) -> &'static str
         ensures { AddsBy S.Store result.now 1 (tree_of self.now) place_new place_new }
     {
-        match self {
-            Lists::Choices => "INSERT INTO choice (student, place, project) VALUES (?1, ?2, ?3)",
-            Lists::Rankings => "INSERT INTO ranking (lecturer, place, student) VALUES (?1, ?2, ?3)",
-            Lists::SecondChoices => {
-                "INSERT INTO choice2 (student, place, project) VALUES (?1, ?2, ?3)"
-            }
-            Lists::SecondRankings => {
-                "INSERT INTO ranking2 (lecturer, place, student) VALUES (?1, ?2, ?3)"
-            }
-        }
+        self.add_text()
     }
 
     fn text_of_eight<S: Alter>(&self) -> &'static str
         ensures { AddsBy S.Store result.now 8 (tree_of self.now) place_new place_new }
     {
-        match self {
-            Lists::Choices => insert_eight!("choice (student, place, project)"),
-            Lists::Rankings => insert_eight!("ranking (lecturer, place, student)"),
-            Lists::SecondChoices => insert_eight!("choice2 (student, place, project)"),
-            Lists::SecondRankings => insert_eight!("ranking2 (lecturer, place, student)"),
-        }
+        self.add_eight_text()
     }
 
     fn put_values<'v>(

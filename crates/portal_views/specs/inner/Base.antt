@@ -2,7 +2,7 @@
 use Rattle.portal_tables.specs.Reads.{Blames}
 use Rattle.portal_tables.specs.declared.fault.TableFault.{TableFault}
 pub use Rattle.portal_rules.specs.Good.{IsLecturer, IsProject, IsStudent}
-pub use Rattle.portal_rules.specs.Sight.{LecturerSees, StudentSees}
+pub use Rattle.portal_rules.specs.Calls.{LecturerSees, StudentSees}
 pub use Rattle.portal_rules.specs.View.{listing_with}
 pub use Rattle.portal_rules.specs.Words.{Key, Rise, has, equals, put, put_all}
 pub use Rattle.portal_rules.specs.World.{is_at, is_from_ranking, is_published}

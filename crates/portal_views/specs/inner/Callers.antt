@@ -1,7 +1,9 @@
 -- What a lecturer or a student sees, of the own row and of what the tables hold.
 use Rattle.std.specs.Prelude.{◌≡◌, ◌≤◌, true, if◌then◌else◌}
+use Rattle.spa_rows.specs.Limits.{most_places}
 use Rattle.spa_rows.specs.Lines.{is_key}
-use Rattle.portal_tables.specs.Tables.{choice_table, ranking_table, tree_of}
+use Rattle.portal_tables.specs.Tables.{tree_of}
+use Rattle.portal_tables.specs.declared.list_table.Lists.TheVariants.{Choices, Rankings}
 use Rattle.portal_tables.specs.Rows.{of_key, IsWhole}
 use Rattle.portal_views.specs.inner.Base.{AllByRecursion, Vec, List, [], map, filter, Option, Global, Row, column}
 use Rattle.portal_views.specs.inner.Base.{bytes, Trees, Database, number_in, Phase, Round, First, Second, Listing}
@@ -91,8 +93,8 @@ pub record HasOwnKeys (lecturer : Key) (db : Database) : Type 0 where
 pub record IsReadableByLecturer (round : Round) (c : Row) (db : Database) : Type 0 where
   pub person : IsNamed c
   pub low : 1 ≤ number_in (column c 3)
-  pub high : number_in (column c 3) ≤ 200
-  pub ranking : IsFine (ranking_table round) db.trees c
+  pub high : number_in (column c 3) ≤ most_places
+  pub ranking : IsFine (Rankings round) db.trees c
   pub projects : HasOwnKeys (first_cell c) db
   pub students : HasStudents round db
 
@@ -116,7 +118,7 @@ student_shown round db phase c offers =
 -- the round has no gap
 pub record IsReadable (round : Round) (db : Trees) (c : Row) : Type 0 where
   pub person : IsNamed c
-  pub whole : IsWhole (of_key (first_cell c) (db (tree_of (choice_table round))))
+  pub whole : IsWhole (of_key (first_cell c) (db (tree_of (Choices round))))
   pub names : AllByRecursion (λ k. is_key k ≡ true) (choice_shown round db c)
   pub first : HasFirstPlace c
   pub place : HasPlacement round db c

@@ -3,7 +3,7 @@ use Rattle.std.specs.Prelude.{◌≡◌}
 use Rattle.portal_views.specs.inner.Base.{List, None, map, AllByRecursion, filter_map, Row, Trees, Round, IsLecturer}
 use Rattle.portal_views.specs.inner.Base.{IsProject, IsStudent, Key, LecturerRow, ProjectRow, StudentRow}
 use Rattle.portal_tables.specs.inner.Owners.{AreOwned, entry, with_list, IsRead, IsFine}
-use Rattle.portal_tables.specs.Tables.{choice_table, ranking_table}
+use Rattle.portal_tables.specs.declared.list_table.Lists.TheVariants.{Choices, Rankings}
 use Rattle.portal_tables.specs.inner.Placements.{pair_shown, HasPlacement}
 use Rattle.portal_tables.specs.inner.Rolls.{RollsRise, lecturers_shown, projects_shown, students_shown}
 use Rattle.portal_tables.specs.inner.Shown.{shown_lecturer, shown_project, shown_student}
@@ -39,15 +39,15 @@ rows_from round db lecturers projects students =
       lecturers = map shown_lecturer lecturers;
       projects = map shown_project projects;
       students = map shown_student students;
-      choices = filter_map (entry (choice_table round) db) students;
-      rankings = filter_map (entry (ranking_table round) db) lecturers;
+      choices = filter_map (entry (Choices round) db) students;
+      rankings = filter_map (entry (Rankings round) db) lecturers;
       pairs = filter_map (pair_shown round None db) students;
     }
 
 -- what was found while they were read
 pub record AreRead (round : Round) (db : Trees) (lecturers students : List Row) : Type 0 where
-  pub choices : AllByRecursion (IsRead (choice_table round) db) students
-  pub rankings : AllByRecursion (IsRead (ranking_table round) db) lecturers
+  pub choices : AllByRecursion (IsRead (Choices round) db) students
+  pub rankings : AllByRecursion (IsRead (Rankings round) db) lecturers
 
 -- these are those of shown rows, with what was found while they were read
 abbrev pub HasReadOf : Round → AllRows → Trees → List Row → List Row → List Row → Type 0
@@ -63,13 +63,13 @@ pub record AreFine (round : Round) (db : Trees) (lecturers projects students : L
   pub project_forms : AllByRecursion (λ c. IsProject (shown_project c)) projects
   pub student_forms : AllByRecursion (λ c. IsStudent (shown_student c)) students
   pub places : AllByRecursion (HasPlacement round db) students
-  pub choices : AllByRecursion (IsFine (choice_table round) db) students
-  pub rankings : AllByRecursion (IsFine (ranking_table round) db) lecturers
+  pub choices : AllByRecursion (IsFine (Choices round) db) students
+  pub rankings : AllByRecursion (IsFine (Rankings round) db) lecturers
 
 -- and that the lists are theirs
 pub record HasFineRows (round : Round) (db : Trees) (lecturers projects students : List Row) : Type 0 where
-  pub choices : AreOwned (choice_table round) db students
-  pub rankings : AreOwned (ranking_table round) db lecturers
+  pub choices : AreOwned (Choices round) db students
+  pub rankings : AreOwned (Rankings round) db lecturers
   pub fine : AreFine round db lecturers projects students
 
 -- what the reading of the tables asks

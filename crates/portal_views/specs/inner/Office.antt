@@ -1,9 +1,10 @@
 -- What the office sees, of the rolls and of what the tables hold.
 use Rattle.std.specs.Prelude.{◌&&◌, if◌then◌else◌, Bool, is_none}
 use Rattle.std.specs.List.{list_any}
-use Rattle.portal_rules.specs.Sight.{OfficeSees}
+use Rattle.portal_rules.specs.Calls.{OfficeSees}
 use Rattle.portal_rules.specs.Words.{is_empty}
-use Rattle.portal_tables.specs.Tables.{choice_table, ranking_table, tree_of, student_tree}
+use Rattle.portal_tables.specs.Tables.{tree_of, student_tree}
+use Rattle.portal_tables.specs.declared.list_table.Lists.TheVariants.{Choices, Rankings}
 use Rattle.portal_tables.specs.Rows.{IsWhole, of_key, row_key}
 use Rattle.portal_tables.specs.inner.Owners.{has_list, choice_shown}
 use Rattle.portal_tables.specs.inner.Placements.{pair_shown, placement_before, HasFirstPlace, HasPlacement}
@@ -17,7 +18,7 @@ use Rattle.portal_views.specs.inner.Lines.{HasTables}
 -- the tables are the portal's own and sound, and no student's list of the round has a gap
 pub record HasWholeLists (round : Round) (db : Database) : Type 0 where
   pub tables : HasTables db
-  pub whole : AllByRecursion (λ r. IsWhole (of_key (row_key r) (db.trees (tree_of (choice_table round))))) (db.trees student_tree)
+  pub whole : AllByRecursion (λ r. IsWhole (of_key (row_key r) (db.trees (tree_of (Choices round))))) (db.trees student_tree)
 
 -- What the reading of the office's view asks of the rolls that are shown: each cell and each place
 -- has its form, and no list has a gap.
@@ -46,7 +47,7 @@ is_wanted_shown round db projects lecturer =
 -- the key of the lecturer whose row is shown, where there is an applicant and no ranking
 abbrev pub waiting_key : Round → Trees → List ProjectRow → Row → Option Key
 waiting_key round db projects c =
-    if has_list (ranking_table round) db c then None else (if is_wanted_shown round db projects (first_cell c) then Some (first_cell c) else None)
+    if has_list (Rankings round) db c then None else (if is_wanted_shown round db projects (first_cell c) then Some (first_cell c) else None)
 
 abbrev pub waiting_keys : Round → Trees → List ProjectRow → List Row → List Key
 waiting_keys round db projects lecturers = filter_map (waiting_key round db projects) lecturers

@@ -11,7 +11,7 @@ ghost use Rattle.spa_model.specs.inner.Numbers.{IsLecturerOf};
 ghost use Rattle.std.specs.List.{AllZip};
 
 use crate::instance::{Lecturer, Project, Student};
-use spa_rows::{Key, KeyFault, LecturerLine, Places, ProjectLine, StudentLine};
+use spa_rows::{Key, KeyFault, LecturerLine, LineIndex, ProjectLine, StudentLine};
 use std::alloc::{AllocError, Global};
 
 /// Converts the bytes of a line's key, known to be well formed, into a key.
@@ -61,7 +61,7 @@ fn numbered_student(
 fn numbered_project(
     alloc: Global,
     line: &ProjectLine,
-    lecturers: &Places<LecturerLine>,
+    lecturers: &LineIndex<LecturerLine>,
 ) -> Result<Project, AllocError>
     requires form { is_key line.now.key ≡ true }
     requires known { IsKeyOf lecturers.now (λ x. x.key) line.now.lecturer }
@@ -132,7 +132,7 @@ pub(crate) fn number_projects(
     ensures { IfOk result (λ projects. AllZip (IsProjectOf
         (keys_of_lecturers lecturers.now)) lines.now projects.items) }
 {
-    let places = Places::of(alloc, lecturers)?;
+    let places = LineIndex::of(alloc, lecturers)?;
     let mut projects = Vec::with_capacity(alloc, lines.len())?;
     for line in lines {
         projects.push(numbered_project(alloc, line, &places)?)?;

@@ -89,7 +89,7 @@ pub record LetsGoAt (i : Spa) (p w : ℕ) (before after : Progress) : Type 0 whe
   pub counts : AreCounts i after
 
 -- the same of the worst student with p's lecturer, whose cut moves
-pub record LetsGoWith (i : Spa) (p w : ℕ) (before after : Progress) : Type 0 where
+pub record LetsGoByLecturer (i : Spa) (p w : ℕ) (before after : Progress) : Type 0 where
   pub worst : IsWorstWith i before.projects.items (lecturer_of i p) w
   pub leaves : Leaves w before after
   pub project_cuts : after.project_cuts.items ≡ before.project_cuts.items

@@ -4,7 +4,7 @@ use crate::tests::steps::{new_desk, plays};
 use portal_core::{LecturerView, View};
 use portal_fixtures::worked::{LISTS, PUBLICATION, ROLLS, SECOND_OPENING, TO_RANKING};
 use portal_fixtures::{LEE, MOE};
-use portal_store::queries::view;
+use portal_store::reading::queries::view;
 use sqlite::types::ValueRef;
 use sqlite::{Alter, Connection};
 use std::process::Abort;

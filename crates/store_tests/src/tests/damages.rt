@@ -4,7 +4,7 @@ use crate::tests::steps::{database, new_desk, plays, run_all};
 use portal_core::{Phase, StudentView, View};
 use portal_fixtures::worked::{IN_CHOOSING, IN_PUBLISHED, IN_RANKING, IN_SETUP};
 use portal_fixtures::{ANN, cut, version1};
-use portal_store::queries::view;
+use portal_store::reading::queries::view;
 use portal_store::{NotOpened, OpenFault, Store, UpgradeFault};
 use sqlite::{Alter, Connection, MemStore};
 use std::process::Abort;

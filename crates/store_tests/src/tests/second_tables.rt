@@ -11,7 +11,7 @@ use portal_tables::names::{Names, is_there};
 use portal_tables::select::{Query, Table, read};
 use portal_tables::{
     FIRST_VERSION, Office, PortalSchema, TableFault, VERSION, office_in, put_placements,
-    rank_second, result_in, second_in, set_second, upgrade_tables,
+    rank_second, result_in, second_in, set_phase, upgrade_tables,
 };
 use portal_views::{catalogue_in, lecturer_view, office_view};
 use spa_rows::Key;
@@ -56,7 +56,7 @@ fn shows_upgraded(rt: &(impl Abort + AllocGlobal), conn: &mut Database) {
     reads(rt, conn, Query::Second, "1 0 /");
     reads(rt, conn, STUDENTS, "S1 Ann ann-code-1 - /");
     reads(rt, conn, CHOICES, "S1 1 P1 /");
-    reads(rt, conn, Query::AllLists(Lists::SecondChoices), "");
+    reads(rt, conn, Query::AllLists(Lists::Choices(Round::Second)), "");
 }
 
 #[test]
@@ -105,11 +105,17 @@ fn write_second(rt: &(impl Abort + AllocGlobal), conn: &mut Database) {
 }
 
 fn put_second(rt: &(impl Abort + AllocGlobal), tx: &mut Changes<'_>) {
-    write_list(rt, tx, Lists::SecondChoices, b"S1", &[b"P1"]);
-    write_list(rt, tx, Lists::SecondRankings, b"L1", &[b"S2", b"S1"]);
+    write_list(rt, tx, Lists::Choices(Round::Second), b"S1", &[b"P1"]);
+    write_list(
+        rt,
+        tx,
+        Lists::Rankings(Round::Second),
+        b"L1",
+        &[b"S2", b"S1"],
+    );
     rank_second(tx, b"L1").expect(rt, "a row");
     rank_second(tx, b"L1").expect(rt, "a row that is there");
-    set_second(tx, Phase::Ranking).expect(rt, "a phase");
+    set_phase(tx, Round::Second, Phase::Ranking).expect(rt, "a phase");
 }
 
 #[test]
@@ -118,12 +124,21 @@ fn the_second_round_is_written(rt: HostRuntime) {
     write_second(&rt, &mut conn);
     reads(&rt, &mut conn, CHOICES, "S2 1 P1 /S1 1 P2 /S1 2 P1 /");
     let wanted = "S1 P1 /S2 /";
-    tells(&rt, &mut conn, Lists::SecondChoices, STUDENTS, wanted);
-    let (lists, owners) = (Lists::SecondRankings, Query::SecondRanked);
+    tells(
+        &rt,
+        &mut conn,
+        Lists::Choices(Round::Second),
+        STUDENTS,
+        wanted,
+    );
+    let (lists, owners) = (Lists::Rankings(Round::Second), Query::SecondRanked);
     tells(&rt, &mut conn, lists, owners, "L1 S2 S1 /");
     let phase = second_in(rt.alloc(), &mut conn);
     assert!(rt; matches!(phase, Ok(Phase::Ranking)));
-    for lists in [Lists::SecondChoices, Lists::SecondRankings] {
+    for lists in [
+        Lists::Choices(Round::Second),
+        Lists::Rankings(Round::Second),
+    ] {
         are_apart(&rt, &mut conn, Table::OfLists(lists));
     }
     are_apart(&rt, &mut conn, Table::OfRanked);

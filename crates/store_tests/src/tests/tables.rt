@@ -82,9 +82,9 @@ pub(crate) const PROJECTS: Query<'static> = Query::Whole(RollTable::Projects);
 
 pub(crate) const STUDENTS: Query<'static> = Query::Whole(RollTable::Students);
 
-pub(crate) const CHOICES: Query<'static> = Query::AllLists(Lists::Choices);
+pub(crate) const CHOICES: Query<'static> = Query::AllLists(Lists::Choices(Round::First));
 
-pub(crate) const RANKINGS: Query<'static> = Query::AllLists(Lists::Rankings);
+pub(crate) const RANKINGS: Query<'static> = Query::AllLists(Lists::Rankings(Round::First));
 
 /// Checks the key, name and assigned project of the student with this key.
 fn are_told(rt: &(impl Abort + AllocGlobal), conn: &mut Database, key: &[u8], wanted: &str) {
@@ -257,9 +257,15 @@ pub(crate) fn write_list(
 }
 
 fn add_lists(rt: &(impl Abort + AllocGlobal), tx: &mut Changes<'_>) {
-    write_list(rt, tx, Lists::Choices, b"S2", &[b"P1"]);
-    write_list(rt, tx, Lists::Choices, b"S1", &[b"P2", b"P1"]);
-    write_list(rt, tx, Lists::Rankings, b"L1", &[b"S2", b"S1"]);
+    write_list(rt, tx, Lists::Choices(Round::First), b"S2", &[b"P1"]);
+    write_list(rt, tx, Lists::Choices(Round::First), b"S1", &[b"P2", b"P1"]);
+    write_list(
+        rt,
+        tx,
+        Lists::Rankings(Round::First),
+        b"L1",
+        &[b"S2", b"S1"],
+    );
 }
 
 fn fill(rt: &(impl Abort + AllocGlobal), conn: &mut Database) -> Result<(), Error> {
@@ -275,11 +281,11 @@ fn assignment<'a>(student: &'a [u8], project: Option<&'a [u8]>) -> Assignment<'a
 }
 
 fn set_all(tx: &mut Changes<'_>) -> Result<(), Error> {
-    set_phase(tx, Phase::Published)?;
+    set_phase(tx, Round::First, Phase::Published)?;
     set_ranked(tx, b"L1")?;
     assign_all(tx, &[assignment(b"S2", Some(b"P1".as_slice()))])?;
-    clear_list(tx, Lists::Choices, b"S1")?;
-    clear_list(tx, Lists::Rankings, b"L1")?;
+    clear_list(tx, Lists::Choices(Round::First), b"S1")?;
+    clear_list(tx, Lists::Rankings(Round::First), b"L1")?;
     Ok(())
 }
 
@@ -300,7 +306,7 @@ fn have_numbers(rt: &impl Abort, conn: &mut Database) {
     ] {
         are_apart(rt, conn, Table::OfRoll(roll));
     }
-    for lists in [Lists::Choices, Lists::Rankings] {
+    for lists in [Lists::Choices(Round::First), Lists::Rankings(Round::First)] {
         are_apart(rt, conn, Table::OfLists(lists));
     }
 }
@@ -337,8 +343,8 @@ fn add_mixed(rt: &(impl Abort + AllocGlobal), tx: &mut Changes<'_>) -> Result<()
         place(b"S1", 1, b"P2"),
     ];
     let rankings = [place(b"L1", 2, b"S1"), place(b"L1", 1, b"S2")];
-    add_all(rt.alloc(), tx, &Lists::Choices, &choices)?;
-    add_all(rt.alloc(), tx, &Lists::Rankings, &rankings)?;
+    add_all(rt.alloc(), tx, &Lists::Choices(Round::First), &choices)?;
+    add_all(rt.alloc(), tx, &Lists::Rankings(Round::First), &rankings)?;
     set_ranked(tx, b"L1")
 }
 
@@ -368,8 +374,8 @@ fn add_nine(rt: &(impl Abort + AllocGlobal), tx: &mut Changes<'_>) -> Result<(),
     add_nine_lecturers(rt, tx)?;
     add_nine_projects(rt, tx)?;
     add_nine_students(rt, tx)?;
-    write_list(rt, tx, Lists::Choices, b"K1", &nine());
-    write_list(rt, tx, Lists::Rankings, b"K1", &nine());
+    write_list(rt, tx, Lists::Choices(Round::First), b"K1", &nine());
+    write_list(rt, tx, Lists::Rankings(Round::First), b"K1", &nine());
     Ok(())
 }
 
@@ -424,7 +430,7 @@ fn rows_come_by_the_eight(rt: HostRuntime) {
         "K1 K1 code-of-K1 - /K2 K2 code-of-K2 - /K3 K3 code-of-K3 - /K4 K4 code-of-K4 - /K5 K5 code-of-K5 - /K6 K6 code-of-K6 - /K7 K7 code-of-K7 - /K8 K8 code-of-K8 - /K9 K9 code-of-K9 - /";
     reads(&rt, &mut conn, STUDENTS, wanted);
     let wanted = "1 K1 /2 K2 /3 K3 /4 K4 /5 K5 /6 K6 /7 K7 /8 K8 /9 K9 /";
-    for lists in [Lists::Choices, Lists::Rankings] {
+    for lists in [Lists::Choices(Round::First), Lists::Rankings(Round::First)] {
         reads_rows(&rt, &mut conn, Query::ListOf(lists, b"K1"), wanted);
     }
     have_numbers(&rt, &mut conn);
@@ -492,9 +498,9 @@ fn lists_are_shown(rt: HostRuntime) {
     let mut conn = department(&rt);
     reads(&rt, &mut conn, CHOICES, "S2 1 P1 /S1 1 P2 /S1 2 P1 /");
     reads(&rt, &mut conn, RANKINGS, "L1 1 S2 /L1 2 S1 /");
-    let query = Query::ListOf(Lists::Choices, b"S1");
+    let query = Query::ListOf(Lists::Choices(Round::First), b"S1");
     reads_rows(&rt, &mut conn, query, "1 P2 /2 P1 /");
-    let query = Query::ListOf(Lists::Rankings, b"L1");
+    let query = Query::ListOf(Lists::Rankings(Round::First), b"L1");
     reads_rows(&rt, &mut conn, query, "1 S2 /2 S1 /");
 }
 
@@ -502,7 +508,13 @@ fn lists_are_shown(rt: HostRuntime) {
 fn lists_are_told(rt: HostRuntime) {
     let mut conn = department(&rt);
     let wanted = "S1 P2 P1 /S2 P1 /";
-    tells(&rt, &mut conn, Lists::Choices, STUDENTS, wanted);
+    tells(
+        &rt,
+        &mut conn,
+        Lists::Choices(Round::First),
+        STUDENTS,
+        wanted,
+    );
 }
 
 #[test]
@@ -510,15 +522,27 @@ fn lists_are_told_of_rows_in_any_order(rt: HostRuntime) {
     let mut conn = created(&rt);
     fill_mixed(&rt, &mut conn);
     let wanted = "S1 P2 P1 /S2 P1 /";
-    tells(&rt, &mut conn, Lists::Choices, STUDENTS, wanted);
-    tells(&rt, &mut conn, Lists::Rankings, LECTURERS, "L1 S2 S1 /");
+    tells(
+        &rt,
+        &mut conn,
+        Lists::Choices(Round::First),
+        STUDENTS,
+        wanted,
+    );
+    tells(
+        &rt,
+        &mut conn,
+        Lists::Rankings(Round::First),
+        LECTURERS,
+        "L1 S2 S1 /",
+    );
 }
 
 #[test]
 fn rows_of_nobody_are_damage(rt: HostRuntime) {
     let mut conn = department(&rt);
     let ann = read(&mut conn, Query::StudentByCode(b"ann-code-1")).expect(&rt, "a row");
-    let lists = entries_in(rt.alloc(), &mut conn, Lists::Choices, &ann);
+    let lists = entries_in(rt.alloc(), &mut conn, Lists::Choices(Round::First), &ann);
     assert!(rt; matches!(lists, Err(TableFault::Damaged)));
 }
 

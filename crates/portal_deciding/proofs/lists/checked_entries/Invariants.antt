@@ -6,5 +6,6 @@ abbrev pub invariant-loop-text : goal.invariant-loop-text
 invariant-loop-text l = record {
   keys : l.keys.items ≡ texts_of (take l.text-index l.list);
   texts : HasTexts l.keys.items l.texts;
-  rest : first_wrong (wrong_rank l.applicants) l.keys.items (texts_of (drop l.text-index l.list)) ≡ first_wrong (wrong_rank l.applicants) [] (texts_of l.list);
+  rest : first_wrong (wrong_rank l.applicants) l.keys.items (texts_of (drop l.text-index l.list))
+      ≡ first_wrong (wrong_rank l.applicants) [] (texts_of l.list);
 }

@@ -10,5 +10,7 @@ invariant-loop-row g l = record {
   few : l.same ≤ l.row-index;
   rows : HasRows g.X.Keyed.key_of (reverse l.new.items ++ l.on_roll) l.register.rows;
   texts : HasTexts (g.R.RollRules.texts_beside l.roll (reverse l.new.items ++ l.on_roll)) l.register.texts;
-  rest : roll.take_rows (g.R.RollRules.rules l.roll) 1 l.on_roll l.rows ≡ before l.new.items l.same (roll.take_rows (g.R.RollRules.rules l.roll) (l.at + 1) (reverse l.new.items ++ l.on_roll) (drop l.row-index l.rows));
+  rest : roll.take_rows (g.R.RollRules.rules l.roll) 1 l.on_roll l.rows
+      ≡ before l.new.items l.same (roll.take_rows (g.R.RollRules.rules l.roll) (l.at + 1) (reverse l.new.items ++ l.on_roll)
+      (drop l.row-index l.rows));
 }

@@ -4,4 +4,5 @@ use Rattle.portal_desk.proofs.playing.decide_whole.Goals as goal
 
 pub returns-clause-decided : goal.returns-clause-decided
 returns-clause-decided c =
-    whole_decision c.args.view.now (call_model c.args.call.now) (decision_model c.in-Ok.field-0) _ (reply_model c.in-Ok-reply_with_sheet.reply) c.in-Ok.ensures.decided c.in-Ok-reply_with_sheet.ensures.told refl
+    whole_decision c.args.view.now (call_model c.args.call.now) (decision_model c.in-Ok.field-0) _
+    (reply_model c.in-Ok-reply_with_sheet.reply) c.in-Ok.ensures.decided c.in-Ok-reply_with_sheet.ensures.told refl

@@ -7,7 +7,8 @@ use Rattle.portal_desk.proofs.reading.next_frame.Goals as goal
 
 pub returns-in_default-found-clause-follows : goal.returns-in_default-found-clause-follows
 returns-in_default-found-clause-follows g c =
-    follows _ _ _ _ c.loop-found.ended c.in-Ok.found c.loop-found.invariant.reads (rw c.as_slice.ensures.value at c.in-Ok.ensures.framed) c.in_default-found.not-Need
+    follows _ _ _ _ c.loop-found.ended c.in-Ok.found c.loop-found.invariant.reads
+    (rw c.as_slice.ensures.value at c.in-Ok.ensures.framed) c.in_default-found.not-Need
     (within _ _ (rw c.as_slice.ensures.value at c.in-Ok.ensures.limits))
 
 smaller : (old new : ℕ) (before after : Bool) → old < request_limit → before ≡ false

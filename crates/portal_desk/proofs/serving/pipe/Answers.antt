@@ -7,7 +7,9 @@ given_back P x y u v h same alike = subst (λ r. P r v) same (subst (P x) alike 
 
 pub returns : goal.returns
 returns g c = record {
-  serves = given_back (λ (r : g.row.R.Denot) w. ServesOne g.K.Keeper.state c.serve.result c.args.desk.now c.serve.new.self (g.R.Read.remaining c.args.reader.now) (g.R.Read.remaining r)
+  serves = given_back (λ (r : g.row.R.Denot) w. ServesOne g.K.Keeper.state c.serve.result c.args.desk.now c.serve.new.self
+      (g.R.Read.remaining c.args.reader.now) (g.R.Read.remaining r)
       (g.W.Write.contents c.args.writer.now) (g.W.Write.contents w))
-      c.serve.new.source.device.now _ c.serve.new.sink.device.now _ (rw (c.new-source.ensures.device, c.new-sink.ensures.device) at c.serve.ensures.serves) (search rules) (search rules);
+      c.serve.new.source.device.now _ c.serve.new.sink.device.now _
+      (rw (c.new-source.ensures.device, c.new-sink.ensures.device) at c.serve.ensures.serves) (search rules) (search rules);
 }

@@ -13,7 +13,8 @@ returns-clause-closes g c = record {
         holds = λ honest image may.
             let clean = falls honest in
             ∥∥₁_map (leaves honest (c.release_store.ensures.numbered clean) (c.release_store.ensures.sound clean) image may)
-            (λ h. let r : (db : Trees) × (file_state c.args.conn).may_leave db × HoldsDatabase image db = (h.0, c.release_store.ensures.quiet h.0 h.1, h.2) in r);
+            (λ h. let r : (db : Trees) × (file_state c.args.conn).may_leave db
+            × HoldsDatabase image db = (h.0, c.release_store.ensures.quiet h.0 h.1, h.2) in r);
       }) c.close_store.ensures.clean c.close_store.ensures.left;
   failed = if_err c.close_store.result _ _ (λ left why. (c.release_store.result, why.0, why.1)) c.close_store.ensures.failed;
 }
@@ -25,4 +26,5 @@ returns-clause-untouched g c none =
 
 pub returns-clause-copied : goal.returns-clause-copied
 returns-clause-copied g c copies =
-    IfOk-weaker c.close_store.result _ _ (λ files is. (c.release_store.result, c.release_store.ensures.comes, is)) (c.close_store.ensures.copied copies)
+    IfOk-weaker c.close_store.result _ _ (λ files is. (c.release_store.result, c.release_store.ensures.comes, is))
+    (c.close_store.ensures.copied copies)

@@ -33,7 +33,8 @@ returns-in-Ok g c =
           let now = clean honest in
           let sure_now = subst (λ p. AreClean g.D.Disk p.0 p.1) c.close-in-Ok.ensures honest in
           let same = c.checkpoint.ensures.same (c.in-Ok.ensures.open now) in
-          ∥∥₁_map (opens_again last (subst (λ (v : View). IsTrue v.is_numbered) (sym same) numbered) (λ db found. sound db (q.outcomes db found)) image
+          ∥∥₁_map (opens_again last (subst (λ (v : View). IsTrue v.is_numbered) (sym same) numbered)
+          (λ db found. sound db (q.outcomes db found)) image
           (may_leave_is last.pool image sure_now (subst (λ p. outcomes g.D.Disk p.0 p.1 image) c.close-in-Ok.ensures may)))
           (λ h. let r : (db : Trees) × recovers c.args.store db × HoldsDatabase image db = (h.0, q.outcomes h.0 h.1, h.2) in r);
       untouched = λ none. absurd (let e : false ≡ true = sym none ∙ c.is_to_copy.ensures.copies c.if-not-is_to_copy.false in cc);
@@ -48,7 +49,8 @@ returns-then-not-is_to_copy g c =
       clean = λ honest. no_doubt _ (clean_is store.pool ∙ subst (λ p. AreClean g.D.Disk p.0 p.1) c.close.ensures honest);
       left = λ honest numbered sound image may.
           opens_again store numbered sound image
-          (may_leave_is store.pool image (subst (λ p. AreClean g.D.Disk p.0 p.1) c.close.ensures honest) (subst (λ p. outcomes g.D.Disk p.0 p.1 image) c.close.ensures may));
+          (may_leave_is store.pool image (subst (λ p. AreClean g.D.Disk p.0 p.1) c.close.ensures honest)
+          (subst (λ p. outcomes g.D.Disk p.0 p.1 image) c.close.ensures may));
       untouched = λ none. c.close.ensures;
       copied = λ copies. inl (c.is_to_copy.ensures.broken c.if-not-is_to_copy.true copies);
       failed = tt;
@@ -67,9 +69,11 @@ returns-in-Err g c =
       left = λ stands honest numbered sound image may.
           let now = clean honest in
           let sure_now = subst (λ p. AreClean g.D.Disk p.0 p.1) c.close-in-Err.ensures honest in
-          let on : IsTrue (view last).is_open = second_by last.has_failed (view last).is_open (sym (broken.ensures.shown now) ∙ not_so broken.result stands) in
+          let on : IsTrue (view last).is_open = second_by last.has_failed (view last).is_open
+          (sym (broken.ensures.shown now) ∙ not_so broken.result stands) in
           let same = c.checkpoint.ensures.same on in
-          ∥∥₁_map (opens_again last (subst (λ (v : View). IsTrue v.is_numbered) (sym same) numbered) (λ db found. sound db (q.outcomes db found)) image
+          ∥∥₁_map (opens_again last (subst (λ (v : View). IsTrue v.is_numbered) (sym same) numbered)
+          (λ db found. sound db (q.outcomes db found)) image
           (may_leave_is last.pool image sure_now (subst (λ p. outcomes g.D.Disk p.0 p.1 image) c.close-in-Err.ensures may)))
           (λ h. let r : (db : Trees) × recovers store db × HoldsDatabase image db = (h.0, q.outcomes h.0 h.1, h.2) in r);
       untouched = λ none. absurd (let e : false ≡ true = sym none ∙ c.is_to_copy.ensures.copies c.if-not-is_to_copy.false in cc);
@@ -85,7 +89,8 @@ returns-in-Err g c =
               let was : IsTrue (view store).is_open = second_by store.has_failed (view store).is_open first in
               elim (q.closes now was) [
                 | inl on ↦
-                    let still : broken.result ≡ false = broken.ensures.shown now ∙ ap (λ (v : View). v.is_broken) (c.checkpoint.ensures.same on) ∙ first in
+                    let still : broken.result ≡ false = broken.ensures.shown now
+                    ∙ ap (λ (v : View). v.is_broken) (c.checkpoint.ensures.same on) ∙ first in
                     let yes : not broken.result ≡ true = ap not still in
                     absurd (let no = sym yes ∙ shut in cc)
                 | inr more ↦ more

@@ -8,6 +8,7 @@ returns-clause-closes g c =
     record {
       same = is.same;
       kept = is.kept;
-      only = λ on db may. g.met.S.Store.settled c.into_connection-conn.result.store db on may ∙ ap (λ (d : Database). d.trees) (sym (c.settled.ensures.settled on));
+      only = λ on db may. g.met.S.Store.settled c.into_connection-conn.result.store db on may
+          ∙ ap (λ (d : Database). d.trees) (sym (c.outside_transaction.ensures.committed on));
       left = is.left;
     }

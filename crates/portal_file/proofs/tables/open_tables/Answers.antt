@@ -21,11 +21,11 @@ returns-in-Err-clause-refused g c =
     record {
       disk = clean_before old new _ refuses.back.crash;
       did = λ clean. record {
-        serves = unserved old new c.settled.ensures.settled (g.met.S.Store.settled c.args.conn.store)
+        serves = unserved old new c.outside_transaction.ensures.committed (g.met.S.Store.settled c.args.conn.store)
             (λ w stands db may. inl (left_before old new refuses.back.crash clean db may));
         judged = λ free. refused_still old free c.in-Err.field-0.fault (refuses.judged clean);
         denies = denied g.S.Store c.args.conn c.in-Err.field-0.connection c.in-Err.field-0.fault refuses clean;
-        kept = λ free. same_by old c.settled.ensures.settled (g.met.S.Store.settled c.args.conn.store) free new clean
+        kept = λ free. same_by old c.outside_transaction.ensures.committed (g.met.S.Store.settled c.args.conn.store) free new clean
             refuses.back.crash;
       };
     }

@@ -10,7 +10,8 @@ returns-in-Ok-Complete c =
     let n = c.min.result in
     let bytes = c.args.bytes.now in
     let spans = c.in-Ok-Complete.field-0-0 in
-    let head = head_of bytes (take n bytes) (drop n bytes) _ spans e.0 (take-append-drop n bytes) (length_front n bytes c.min.ensures) (search rules) e.1 w in
+    let head = head_of bytes (take n bytes) (drop n bytes) _ spans e.0 (take-append-drop n bytes) (length_front n bytes c.min.ensures)
+    (search rules) e.1 w in
     (item_of e.0 (drop spans.len bytes), inl (e.0, drop spans.len bytes, head.takes, refl))
 
 pub returns-in-Ok-Partial : goal.returns-in-Ok-Partial
@@ -21,5 +22,11 @@ returns-in-Ok-Partial c =
 
 pub returns-in-Err : goal.returns-in-Err
 returns-in-Err c =
-    let bytes = c.args.bytes.now in
-    (headless bytes, inr (none_now bytes (overflows_all _ (subst (RequestOverflows 32) (front_is _ _ c.min.ensures) c.in-Err.ensures.no_room)), refl))
+    let bytes = c.args.bytes.now in (
+      headless bytes,
+      inr (
+        none_now bytes (overflows_all _
+            (subst (RequestOverflows 32) (front_is _ _ c.min.ensures) c.in-Err.ensures.no_room)),
+        refl,
+      ),
+    )

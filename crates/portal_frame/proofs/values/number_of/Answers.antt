@@ -30,7 +30,9 @@ loop-digit-preserved c =
     let d = digit b is in
     let small : c.loop-digit.number < 10 ^ i = c.loop-digit.invariant.small in
     record {
-      value_is = ap (λ n. n * 10 + (b - 48)) c.loop-digit.invariant.value_is ∙ (ap (λ n. digits_value 10 (take i ds) * 10 + n) (sym d.0) ∙ sym (digits_value_more 10 ds i c.loop-digit-test.true));
+      value_is = ap (λ n. n * 10 + (b - 48)) c.loop-digit.invariant.value_is
+          ∙ (ap (λ n. digits_value 10 (take i ds) * 10 + n) (sym d.0) ∙ sym (digits_value_more 10 ds i c.loop-digit-test.true));
       small = rw add-one (omega (arith, small, d.1));
-      digits = list_all_more is_ascii_digit ds i 0 c.loop-digit-test.true ∙ ap (λ t. t && is_ascii_digit b) c.loop-digit.invariant.digits ∙ is;
+      digits = list_all_more is_ascii_digit ds i 0 c.loop-digit-test.true ∙ ap (λ t. t && is_ascii_digit b) c.loop-digit.invariant.digits
+          ∙ is;
     }

@@ -12,12 +12,15 @@ loop-place-preserved c =
       | then-place-marks w ↦ record {
         len = c.if-place-marks.auto.marks ∙ c.loop-place.invariant.len;
         marks = λ i low.
-            marks_more c.args.places.now j k i (get_or c.args.marks.now i false) _ _ (c.loop-place.invariant.marks i low) (ap (λ ms. get_or ms i false) w.marks-is ∙ marked c.loop-place.marks k i w.if-place-marks.true) c.loop-place-test.true at;
+            marks_more c.args.places.now j k i (get_or c.args.marks.now i false) _ _ (c.loop-place.invariant.marks i low)
+            (ap (λ ms. get_or ms i false) w.marks-is ∙ marked c.loop-place.marks k i w.if-place-marks.true) c.loop-place-test.true at;
       }
       | else-place-marks w ↦ record {
         len = c.if-place-marks.auto.marks ∙ c.loop-place.invariant.len;
         marks = λ i low.
             marks_more c.args.places.now j k i (get_or c.args.marks.now i false) _ _ (c.loop-place.invariant.marks i low)
-            (ap (λ ms. get_or ms i false) w.marks-is ∙ unmarked c.loop-place.marks k i w.if-place-marks.false (omega (arith, c.loop-place.invariant.len))) c.loop-place-test.true at;
+            (ap (λ ms. get_or ms i false) w.marks-is
+            ∙ unmarked c.loop-place.marks k i w.if-place-marks.false (omega (arith, c.loop-place.invariant.len)))
+            c.loop-place-test.true at;
       }
     ]

@@ -10,7 +10,10 @@ returns c =
     let v = c.push.new.self in
     let items : v.items ≡ noted (hash.get text_eq c.args.places.now c.as_bytes.result) ++ c.args.place ∷ []
     = c.in_ok-push.ensures.items
-    ∙ ap (λ (w : Vec ℕ Global). w.items ++ c.args.place ∷ []) (c.or_insert-noted.ensures.value ∙ ap (λ o. unwrap_or o c.new.result) c.in_ok-places.ensures.value)
-    ∙ ap (λ ns. ns ++ c.args.place ∷ []) (noted_or (hash.get text_eq c.args.places.now c.as_bytes.result) c.new.result c.new.ensures.items) in
-    let put = noted_put c.args.places.now (map_with_value c.in_ok-places.field-0 v) c.as_bytes.result v c.args.place (c.in_ok-places.ensures.update.0 v) items in
+    ∙ ap (λ (w : Vec ℕ Global). w.items ++ c.args.place ∷ [])
+    (c.or_insert-noted.ensures.value ∙ ap (λ o. unwrap_or o c.new.result) c.in_ok-places.ensures.value)
+    ∙ ap (λ ns. ns ++ c.args.place ∷ []) (noted_or
+    (hash.get text_eq c.args.places.now c.as_bytes.result) c.new.result c.new.ensures.items) in
+    let put = noted_put c.args.places.now (map_with_value c.in_ok-places.field-0 v) c.as_bytes.result v c.args.place
+    (c.in_ok-places.ensures.update.0 v) items in
     λ q i. grind (arith, common_steps, put q i)

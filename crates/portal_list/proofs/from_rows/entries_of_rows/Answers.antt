@@ -3,10 +3,14 @@ use Rattle.portal_list.proofs.Parted.{fitted_rows, lecturers_of_sound, students_
 use Rattle.portal_list.proofs.from_rows.entries_of_rows.Goals as goal
 
 pub returns-in_default-clause-refused : goal.returns-in_default-clause-refused
-returns-in_default-clause-refused c refused w e sound = nothing_made (λ v. v.items) c.in_ok-lecturers.field-0 w.lecturers c.in_default.is (c.in_ok-lecturers.ensures ∙ lecturers_of_sound _ w (c.rows.view_is ∙ e) sound)
+returns-in_default-clause-refused c refused w e sound =
+    nothing_made (λ v. v.items) c.in_ok-lecturers.field-0 w.lecturers c.in_default.is
+    (c.in_ok-lecturers.ensures ∙ lecturers_of_sound _ w (c.rows.view_is ∙ e) sound)
 
 pub returns-in_default-2-clause-refused : goal.returns-in_default-2-clause-refused
-returns-in_default-2-clause-refused c refused w e sound = nothing_made (λ v. v.items) c.in_ok-students.field-0 w.students c.in_default-2.is (c.in_ok-students.ensures ∙ students_of_sound _ w (c.rows.view_is ∙ e) sound)
+returns-in_default-2-clause-refused c refused w e sound =
+    nothing_made (λ v. v.items) c.in_ok-students.field-0 w.students c.in_default-2.is
+    (c.in_ok-students.ensures ∙ students_of_sound _ w (c.rows.view_is ∙ e) sound)
 
 pub returns-clause-fitted : goal.returns-clause-fitted
 returns-clause-fitted c =

@@ -10,7 +10,9 @@ loop-row-preserved c =
     (option_map (λ v. v.items) c.take_for-ranking.result) (option_map (λ v. v.items) c.take_for-earlier_ranking.result) _
     c.loop-row.invariant c.in-Some.ensures.steps.0
     (ap (map (λ r. (r.0, r.1.items))) c.take_for-ranking.ensures.left ∙ rest_map (λ v. v.items) c.in-Some.row.key c.loop-row.rest.items)
-    (ap (map (λ r. (r.0, r.1.items))) c.take_for-earlier_ranking.ensures.left ∙ rest_map (λ v. v.items) c.in-Some.row.key c.loop-row.earlier.items)
+    (ap (map (λ r. (r.0, r.1.items))) c.take_for-earlier_ranking.ensures.left
+    ∙ rest_map (λ v. v.items) c.in-Some.row.key c.loop-row.earlier.items)
     (ap (option_map (λ v. v.items)) c.take_for-ranking.ensures.taken ∙ next_map (λ v. v.items) c.in-Some.row.key c.loop-row.rest.items)
-    (ap (option_map (λ v. v.items)) c.take_for-earlier_ranking.ensures.taken ∙ next_map (λ v. v.items) c.in-Some.row.key c.loop-row.earlier.items)
+    (ap (option_map (λ v. v.items)) c.take_for-earlier_ranking.ensures.taken
+    ∙ next_map (λ v. v.items) c.in-Some.row.key c.loop-row.earlier.items)
     c.in_ok-push.ensures.items

@@ -15,7 +15,8 @@ loop-row-preserved c =
     c.loop-row.pairs.items c.take_for-placed.new.rest.items
     (map (λ x. (x.0, x.1.items)) c.loop-row.earlier_choices.items) (map (λ x. (x.0, x.1.items)) c.earlier_for.new.rest.items)
     c.loop-row.earlier_pairs.items c.take_for-earlier_placement.new.rest.items
-    c.in-Some-take_for.choice.items c.take_for-placed.result c.in-Some-earlier_for.earlier_choice.items c.take_for-earlier_placement.result _
+    c.in-Some-take_for.choice.items c.take_for-placed.result c.in-Some-earlier_for.earlier_choice.items c.take_for-earlier_placement.result
+    _
     c.loop-row.invariant c.in-Some.ensures.steps.0
     (ap (map (λ x. (x.0, x.1.items))) c.take_for.ensures.left ∙ rest_map (λ v. v.items) c.in-Some.row.key c.loop-row.choices.items)
     c.take_for-placed.ensures.left

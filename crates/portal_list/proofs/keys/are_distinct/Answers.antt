@@ -29,7 +29,8 @@ module _ {X : Type 0} (key : X → Key) where
   not_earlier xs once j x low at (i, y, less, is_y, same) =
       let before : i < j = omega (arith, length-take j xs) in
       let y_at : get_or xs i y ≡ y = sym (get_or-take j xs i y before) ∙ is_y in
-      distinct_apart (map key xs) i j [] once before (omega (arith, length-map xs key)) (map_at key xs i y [] (omega arith) y_at ∙ same ∙ sym (map_at key xs j x [] low at))
+      distinct_apart (map key xs) i j [] once before (omega (arith, length-map xs key))
+      (map_at key xs i y [] (omega arith) y_at ∙ same ∙ sym (map_at key xs j x [] low at))
 
 pub returns-then-not-branch : goal.returns-then-not-branch
 returns-then-not-branch c =
@@ -38,8 +39,12 @@ returns-then-not-branch c =
     let blank : Bor Text = record { ref_ptr = (0, 0); now = [] } in
     let x : Bor Text = get_or texts n blank in
     let at : get_or texts n x ≡ x = get_or_default texts n x blank c.loop-text-test.true in
-    let earlier = tree_before texts (λ t. t.now) c.loop-text.seen x c.in_ok-insert.field-0 n x c.in_ok-insert.ensures.added refl c.loop-text.invariant.seen in
-    (λ e. absurd (false≢true e), λ once. absurd (not_earlier (λ t. t.now) texts once n x c.loop-text-test.true at (earlier.0 (ap not c.if-not-branch.true))))
+    let earlier = tree_before texts (λ t. t.now) c.loop-text.seen x c.in_ok-insert.field-0 n x c.in_ok-insert.ensures.added refl
+    c.loop-text.invariant.seen in (
+      λ e. absurd (false≢true e),
+      λ once. absurd
+          (not_earlier (λ t. t.now) texts once n x c.loop-text-test.true at (earlier.0 (ap not c.if-not-branch.true))),
+    )
 
 pub loop-text-preserved : goal.loop-text-preserved
 loop-text-preserved c =
@@ -48,11 +53,17 @@ loop-text-preserved c =
     let blank : Bor Text = record { ref_ptr = (0, 0); now = [] } in
     let x : Bor Text = get_or texts n blank in
     let at : get_or texts n x ≡ x = get_or_default texts n x blank c.loop-text-test.true in
-    let earlier = tree_before texts (λ t. t.now) c.loop-text.seen x c.in_ok-insert.field-0 n x c.in_ok-insert.ensures.added refl c.loop-text.invariant.seen in
+    let earlier = tree_before texts (λ t. t.now) c.loop-text.seen x c.in_ok-insert.field-0 n x c.in_ok-insert.ensures.added refl
+    c.loop-text.invariant.seen in
     record {
-      seen = tree_more texts (λ t. t.now) c.loop-text.seen c.insert.new.self x n x c.in_ok-insert.ensures.updates refl c.loop-text-test.true at c.loop-text.invariant.seen;
+      seen = tree_more texts (λ t. t.now) c.loop-text.seen c.insert.new.self x n x c.in_ok-insert.ensures.updates refl c.loop-text-test.true
+          at c.loop-text.invariant.seen;
       distinct = λ j text below is repeated. grind (arith, get_or_default, false≢true);
     }
 
 pub returns : goal.returns
-returns c = (λ _. distinct_so (λ t. t.now) c.args.texts.now (λ j x low at earlier. c.loop-text.invariant.distinct j x (omega arith) at earlier), λ _. refl)
+returns c = (
+  λ _. distinct_so (λ t. t.now) c.args.texts.now
+      (λ j x low at earlier. c.loop-text.invariant.distinct j x (omega arith) at earlier),
+  λ _. refl,
+)

@@ -33,10 +33,13 @@ known_nowhere {X} key rows k n below above = at (has (map key rows) k) refl
 pub returns-in-Ok : goal.returns-in-Ok
 returns-in-Ok g c =
     known_at g.K.Keyed.key_of c.args.rows.now c.args.key.now c.in-Ok.field-0 c.in-Ok.ensures.bound
-    (c.in-Ok.ensures.position (λ y. slice_cmp nat_cmp (g.K.Keyed.key_of y) c.args.key.now) (always_returns_same _ _ _ (λ a r h k. search rules)))
+    (c.in-Ok.ensures.position (λ y. slice_cmp nat_cmp (g.K.Keyed.key_of y) c.args.key.now)
+    (always_returns_same _ _ _ (λ a r h k. search rules)))
 
 pub returns-in-Err : goal.returns-in-Err
 returns-in-Err g c =
-    let part = c.in-Err.ensures.position (λ y. slice_cmp nat_cmp (g.K.Keyed.key_of y) c.args.key.now) (always_returns_same _ _ _ (λ a r h k. search rules))
-    (searchable_from_sorted nat_list_cmp_total g.K.Keyed.key_of c.args.rows.now c.args.key.now (sorted_rows g.K.Keyed.key_of c.args.rows.now (pairs_rise (map g.K.Keyed.key_of c.args.rows.now) c.requires))) in
+    let part = c.in-Err.ensures.position (λ y. slice_cmp nat_cmp (g.K.Keyed.key_of y) c.args.key.now)
+    (always_returns_same _ _ _ (λ a r h k. search rules))
+    (searchable_from_sorted nat_list_cmp_total g.K.Keyed.key_of c.args.rows.now c.args.key.now
+    (sorted_rows g.K.Keyed.key_of c.args.rows.now (pairs_rise (map g.K.Keyed.key_of c.args.rows.now) c.requires))) in
     known_nowhere g.K.Keyed.key_of c.args.rows.now c.args.key.now c.in-Err.field-0 (λ k d h. part.0 k d (omega arith) h) part.1

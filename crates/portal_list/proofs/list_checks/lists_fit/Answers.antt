@@ -10,7 +10,8 @@ returns c =
     let projects = c.deref-2.ensures.value ∙ ap (λ (a : AllEntries). a.projects) c.entries.view_is in
     let students = c.deref-3.ensures.value ∙ ap (λ (a : AllEntries). a.students) c.entries.view_is in
     let all : read ≡ e = λ i. record e { lecturers = lecturers i; projects = projects i; students = students i } in
-    let fits : Bool → AllEntries → Type 0 = λ asked a. AllByRecursion (λ l. HasRanking asked (applicant_keys a.projects a.students l.row.key) l.ranking) a.lecturers in
+    let fits : Bool → AllEntries → Type 0 = λ asked a. AllByRecursion
+    (λ l. HasRanking asked (applicant_keys a.projects a.students l.row.key) l.ranking) a.lecturers in
     IfOk-weaker c.rankings_fit.result _ _ (λ yes same. (
       λ h. record {
         entries_fit = c.entries_fit.ensures.0 c.if-not-entries_fit.false;

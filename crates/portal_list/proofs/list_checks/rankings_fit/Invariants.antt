@@ -2,4 +2,5 @@ use Rattle.portal_list.proofs.Base.{take, AllByRecursion, applicant_keys, HasRan
 use Rattle.portal_list.proofs.list_checks.rankings_fit.Given as goal
 
 abbrev pub invariant-loop-lecturer : goal.invariant-loop-lecturer
-invariant-loop-lecturer l = AllByRecursion (λ x. HasRanking l.asked (applicant_keys l.projects l.students x.row.key) x.ranking) (take l.lecturer-index l.lecturers)
+invariant-loop-lecturer l = AllByRecursion (λ x. HasRanking l.asked (applicant_keys l.projects l.students x.row.key) x.ranking)
+    (take l.lecturer-index l.lecturers)

@@ -2,4 +2,5 @@ use Rattle.portal_list.proofs.Base.{IfOk-weaker, rules, project_played}
 use Rattle.portal_list.proofs.second_round.projects_played.Goals as goal
 
 pub returns : goal.returns
-returns c = IfOk-weaker c.try_filter_map.result _ _ (λ v made. made (project_played c.args.lecturers.now c.args.pairs.now) (λ x o h. search rules)) c.try_filter_map.ensures
+returns c = IfOk-weaker c.try_filter_map.result _ _
+    (λ v made. made (project_played c.args.lecturers.now c.args.pairs.now) (λ x o h. search rules)) c.try_filter_map.ensures

@@ -6,7 +6,14 @@ pub returns : goal.returns
 returns c =
     let keeper = c.keeper.inside in
     let e = c.entries.inside in
-    let w : World = record { round = e.round; phase = keeper.phase; office = keeper.office; lecturers = e.lecturers.items; projects = e.projects.items; students = e.students.items } in
+    let w : World = record {
+      round = e.round;
+      phase = keeper.phase;
+      office = keeper.office;
+      lecturers = e.lecturers.items;
+      projects = e.projects.items;
+      students = e.students.items;
+    } in
     let there : w ≡ c.args.keeper.now = ap (world_with keeper.phase keeper.office) c.entries.view_is ∙ c.keeper.view_is in
     (λ i. record {
       round = e.round;
@@ -14,8 +21,11 @@ returns c =
       me = c.in_ok-person_of.ensures i;
       capacity = c.lecturer.inside.row.capacity;
       catalogue = (c.in_ok-catalogue.ensures ∙ ap catalogue (sym there)) i;
-      applicants = (c.in_ok-applicants_by_project.ensures ∙ λ j. applicants_shown (c.is_from_ranking-closed.ensures j) (c.deref.ensures.value j) c.lecturer.inside.row.key (c.deref-2.ensures.value j)) i;
+      applicants = (c.in_ok-applicants_by_project.ensures
+          ∙ λ j. applicants_shown (c.is_from_ranking-closed.ensures j) (c.deref.ensures.value j) c.lecturer.inside.row.key
+          (c.deref-2.ensures.value j)) i;
       ranking = c.in_ok-ranking_copy.ensures i;
-      placed = (c.in_ok-placed_by_project.ensures ∙ λ j. placements_shown keeper.phase (c.deref-3.ensures.value j) c.lecturer.inside.row.key (c.deref-4.ensures.value j)) i;
+      placed = (c.in_ok-placed_by_project.ensures
+          ∙ λ j. placements_shown keeper.phase (c.deref-3.ensures.value j) c.lecturer.inside.row.key (c.deref-4.ensures.value j)) i;
     })
     ∙ λ i. lecturer_sees (there i) (c.lecturer.view_is i)

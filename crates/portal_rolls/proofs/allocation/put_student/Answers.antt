@@ -16,12 +16,17 @@ unplaced v s key name k n e = (λ i. k i ∷ n i ∷ [] ∷ [] ∷ [] ∷ []) �
 pub returns-in-Some : goal.returns-in-Some
 returns-in-Some c =
     let there = rw c.in-Some.is at c.project_of.ensures in
-    let e = placed c.args.placings.now c.args.student.now c.in-Some.project.now _ _ _ _ _ c.as_bytes-key.ensures.bytes c.as_bytes-name.ensures.bytes
+    let e = placed c.args.placings.now c.args.student.now c.in-Some.project.now _ _ _ _ _ c.as_bytes-key.ensures.bytes
+    c.as_bytes-name.ensures.bytes
     c.as_bytes.ensures.bytes c.as_bytes-title.ensures.bytes c.as_bytes-in-Some.ensures.bytes there in
-    subst (λ fields. OnOk c.put_record.result ((text : List ℕ) → HasWritten c.args.writer.now text → HasWritten c.put_record.new.writer (text ++ csv_record fields))) e c.put_record.ensures
+    subst (λ fields. OnOk c.put_record.result
+    ((text : List ℕ) → HasWritten c.args.writer.now text → HasWritten c.put_record.new.writer (text ++ csv_record fields))) e
+    c.put_record.ensures
 
 pub returns-in-None : goal.returns-in-None
 returns-in-None c =
     let none = rw c.in-None.is at c.project_of.ensures in
     let e = unplaced c.args.placings.now c.args.student.now _ _ c.as_bytes-key.ensures.bytes c.as_bytes-name.ensures.bytes none in
-    subst (λ fields. OnOk c.put_record-in-None.result ((text : List ℕ) → HasWritten c.args.writer.now text → HasWritten c.put_record-in-None.new.writer (text ++ csv_record fields))) e c.put_record-in-None.ensures
+    subst (λ fields. OnOk c.put_record-in-None.result
+    ((text : List ℕ) → HasWritten c.args.writer.now text → HasWritten c.put_record-in-None.new.writer (text ++ csv_record fields))) e
+    c.put_record-in-None.ensures

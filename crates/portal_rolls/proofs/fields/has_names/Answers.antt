@@ -3,7 +3,8 @@ use Rattle.portal_rolls.proofs.Header.{all_names, name_differs, name_same, other
 use Rattle.portal_rolls.proofs.fields.has_names.Goals as goal
 
 pub returns-then-len-names : goal.returns-then-len-names
-returns-then-len-names c = other_count _ (fields_of c.args.row.now) (λ e. c.if-len-names.true (c.len.ensures ∙ sym e ∙ length-map c.args.names.now (λ n. n.now)))
+returns-then-len-names c = other_count _ (fields_of c.args.row.now)
+    (λ e. c.if-len-names.true (c.len.ensures ∙ sym e ∙ length-map c.args.names.now (λ n. n.now)))
 
 pub returns-then-ne : goal.returns-then-ne
 returns-then-ne c = search (rules, name_differs)

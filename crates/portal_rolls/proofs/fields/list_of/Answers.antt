@@ -12,4 +12,5 @@ loop-byte-preserved c = search (rules, then-byte-eq32+in_ok-push, map-append, st
 pub returns : goal.returns
 returns c =
     rw (c.in_ok-push-3.ensures.items, map-append)
-    (last_piece _ c.loop-byte.piece.items c.args.field.now c.loop-byte.byte-index _ (omega arith) c.loop-byte.invariant ∙ list_is_cut c.args.field.now (search rules))
+    (last_piece _ c.loop-byte.piece.items c.args.field.now c.loop-byte.byte-index _ (omega arith) c.loop-byte.invariant
+    ∙ list_is_cut c.args.field.now (search rules))

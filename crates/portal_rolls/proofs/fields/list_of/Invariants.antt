@@ -5,4 +5,5 @@ use Rattle.portal_rolls.proofs.Cut.{before}
 use Rattle.portal_rolls.proofs.fields.list_of.Given as goal
 
 abbrev pub invariant-loop-byte : goal.invariant-loop-byte
-invariant-loop-byte l = form.text_views l.list.items ++ before l.piece.items (spec.cut_at_blanks (drop l.byte-index l.field)) ≡ spec.cut_at_blanks l.field
+invariant-loop-byte l = form.text_views l.list.items ++ before l.piece.items (spec.cut_at_blanks (drop l.byte-index l.field))
+    ≡ spec.cut_at_blanks l.field

@@ -6,7 +6,9 @@ use Rattle.portal_rules.proofs.collecting.try_filter_map.Goals.{in-Some+in_ok-pu
 
 pub loop-item-preserved : goal.loop-item-preserved
 loop-item-preserved g c f makes =
-    let said : c.in_ok-value.field-0 ≡ f c.item-item.result = makes c.item-item.result c.in_ok-value.field-0 (record { shown = _; shows = refl; says = record { met = c.in_ok-value.ensures } }) in
+    let said : c.in_ok-value.field-0 ≡ f c.item-item.result =
+    makes c.item-item.result c.in_ok-value.field-0
+    (record { shown = _; shows = refl; says = record { met = c.in_ok-value.ensures } }) in
     grind (arith, in-Some+in_ok-push, some_more, in_default, none_more, c.loop-item.invariant f makes, said)
 
 pub returns : goal.returns

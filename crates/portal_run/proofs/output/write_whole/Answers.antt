@@ -12,5 +12,6 @@ loop-done-preserved g c =
     let bound : c.in-Ok.n ≤ length rest = subst (λ (l : Text). c.in-Ok.n ≤ length l) all c.in-Ok.ensures.bound in (
       omega (arith, c.loop-done.invariant.0, bound, size),
       more_written _ _ _ c.args.text.now c.loop-done.done c.in-Ok.n c.loop-done.invariant.1
-          (subst (λ (l : Text). Appends (g.W.Write.contents c.loop-done.writer) (g.W.Write.contents c.write_again.new.writer) (take c.in-Ok.n l)) all c.in-Ok.ensures.bytes),
+          (subst (λ (l : Text). Appends (g.W.Write.contents c.loop-done.writer) (g.W.Write.contents c.write_again.new.writer)
+          (take c.in-Ok.n l)) all c.in-Ok.ensures.bytes),
     )

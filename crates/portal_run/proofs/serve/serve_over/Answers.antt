@@ -6,7 +6,8 @@ use Rattle.portal_run.proofs.serve.serve_over.Goals as goal
 
 pub returns-in-Ok-clause-performs : goal.returns-in-Ok-clause-performs
 returns-in-Ok-clause-performs g c =
-    let name = name_stays _ _ _ _ _ c.serve.result c.serve.ensures.told c.serve.ensures.refused c.serve.ensures.closed (λ e j. (e j).writer.ghost_name) in
+    let name = name_stays _ _ _ _ _ c.serve.result c.serve.ensures.told c.serve.ensures.refused c.serve.ensures.closed
+    (λ e j. (e j).writer.ghost_name) in
     served g.F.Databases.stands g.F.Databases.over c.args.files c.args.path.now c.args.port c.args.connections g.W.Write.contents
     (g.W.Write.contents c.args.writer.now) c.serve.new.service.writer.now _ _ c.serve.new.service.ended c.say_end.result c.serve.result
     (Ok c.in-Ok.field-0) c.in_default.ensures c.say_end.ensures.says (search (rules, name))
@@ -25,9 +26,11 @@ returns-in-Ok-clause-performs g c =
 
 pub returns-in-Err-done-clause-performs : goal.returns-in-Err-done-clause-performs
 returns-in-Err-done-clause-performs g c =
-    let name = name_stays _ _ _ _ _ c.serve.result c.serve.ensures.told c.serve.ensures.refused c.serve.ensures.closed (λ e j. (e j).writer.ghost_name) in
+    let name = name_stays _ _ _ _ _ c.serve.result c.serve.ensures.told c.serve.ensures.refused c.serve.ensures.closed
+    (λ e j. (e j).writer.ghost_name) in
     served g.F.Databases.stands g.F.Databases.over c.args.files c.args.path.now c.args.port c.args.connections g.W.Write.contents
-    (g.W.Write.contents c.args.writer.now) c.serve.new.service.writer.now _ _ c.serve.new.service.ended c.refuse-in-Err-done.result c.serve.result
+    (g.W.Write.contents c.args.writer.now) c.serve.new.service.writer.now _ _ c.serve.new.service.ended c.refuse-in-Err-done.result
+    c.serve.result
     (Err c.in-Err-done.why) c.in_default.ensures c.refuse-in-Err-done.ensures.says (search (rules, name))
     (record {
       ok = c.in-Err-done.ensures.ok;

@@ -7,7 +7,8 @@ returns-in_err-from_cells-clause-ok g c = IfOk-from_err c.from_residual.result _
 
 pub returns-in_err-from_cells-clause-damaged : goal.returns-in_err-from_cells-clause-damaged
 returns-in_err-from_cells-clause-damaged g c told fine =
-    c.in_err-from_cells.ensures.damaged (blamed c.from_residual.result _ c.from_residual.ensures.1 told) (at_item g.T.FromCells.is_fine c.args.rows.now _ _ c.row-item.is c.loop-row-test.true fine)
+    c.in_err-from_cells.ensures.damaged (blamed c.from_residual.result _ c.from_residual.ensures.1 told)
+    (at_item g.T.FromCells.is_fine c.args.rows.now _ _ c.row-item.is c.loop-row-test.true fine)
 
 pub returns-in_err-push-clause-ok : goal.returns-in_err-push-clause-ok
 returns-in_err-push-clause-ok g c = IfOk-from_err c.from_residual-in_err-push.result _ c.from_residual-in_err-push.ensures.0

@@ -8,4 +8,5 @@ returns g c =
     (λ own sound told. MatchResult-weaker c.entries_each.result told.1 (λ v it. it) (λ e no blamed it. no blamed it.1))
 
 pub returns-in_err-see_owners : goal.returns-in_err-see_owners
-returns-in_err-see_owners g c = reads_handed c.from_residual.ensures.1 (reads_of (λ own. own) (λ own sound. tt) c.in_err-see_owners.ensures) (λ own sound told blamed it. told blamed it.0)
+returns-in_err-see_owners g c = reads_handed c.from_residual.ensures.1 (reads_of (λ own. own) (λ own sound. tt) c.in_err-see_owners.ensures)
+    (λ own sound told blamed it. told blamed it.0)

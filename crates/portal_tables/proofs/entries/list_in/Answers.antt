@@ -12,11 +12,16 @@ returns g c =
     let e = c.list_from.ensures in
     reads_more c.in_ok-rows.ensures.reads
     (λ own any shown.
-    let h : ListsBy (2 ∷ []) (has_text 1 owner) (columns (2 ∷ 3 ∷ [])) table rows = subst₂ (λ key rows. ListsBy (2 ∷ []) (has_text 1 key) (columns (2 ∷ 3 ∷ [])) table rows) c.as_bytes.ensures.bytes (sym c.deref.ensures.value) shown in
-    judged c.list_from.result _ _ (both c.list_from.result _ _ _ (λ v up are. record { are = are ∙ list_names owner table rows h up; whole = list_whole owner table rows h up }) e.whole e.names)
+    let h : ListsBy (2 ∷ []) (has_text 1 owner) (columns (2 ∷ 3 ∷ [])) table rows =
+    subst₂ (λ key rows. ListsBy (2 ∷ []) (has_text 1 key) (columns (2 ∷ 3 ∷ [])) table rows) c.as_bytes.ensures.bytes
+    (sym c.deref.ensures.value) shown in
+    judged c.list_from.result _ _ (both c.list_from.result _ _ _
+    (λ v up are. record { are = are ∙ list_names owner table rows h up; whole = list_whole owner table rows h up }) e.whole e.names)
     (λ damaged fine.
     let up = list_counts owner table rows h fine.whole in
-    e.damaged damaged up (all_unmap (λ k. is_key k ≡ true) shown_name rows (subst (AllByRecursion (λ k. is_key k ≡ true)) (sym (list_names owner table rows h up)) fine.keys))))
+    e.damaged damaged up (all_unmap (λ k. is_key k ≡ true) shown_name rows
+    (subst (AllByRecursion (λ k. is_key k ≡ true)) (sym (list_names owner table rows h up)) fine.keys))))
 
 pub returns-in_err-rows : goal.returns-in_err-rows
-returns-in_err-rows g c = reads_handed c.from_residual.ensures.1 c.in_err-rows.ensures.reads (λ own any told blamed so. c.in_err-rows.ensures.undamaged (ap Err blamed))
+returns-in_err-rows g c = reads_handed c.from_residual.ensures.1 c.in_err-rows.ensures.reads
+    (λ own any told blamed so. c.in_err-rows.ensures.undamaged (ap Err blamed))

@@ -15,8 +15,11 @@ returns g c =
     (λ own any shown blamed owned.
     let named : AllByRecursion (λ r. Known (first_cell r)) rows =
     all_permuted (λ r. Known (first_cell r)) _ rows (permuted _ _ _ table rows shown)
-    (all_map (λ r. Known (first_cell r)) (columns (1 ∷ 2 ∷ 3 ∷ [])) (filter every table) (all-filter (λ r. Known (row_key r)) every table owned.known)) in
-    absurd (let e : false ≡ true = c.if-are_owned.ensures.owned owned.rise (subst (AllByRecursion (λ (r : Cells). Known (first_cell r))) (sym c.deref.ensures.value) named) in cc))
+    (all_map (λ r. Known (first_cell r)) (columns (1 ∷ 2 ∷ 3 ∷ [])) (filter every table)
+    (all-filter (λ r. Known (row_key r)) every table owned.known)) in
+    absurd (let e : false ≡ true = c.if-are_owned.ensures.owned owned.rise
+    (subst (AllByRecursion (λ (r : Cells). Known (first_cell r))) (sym c.deref.ensures.value) named) in cc))
 
 pub returns-in_err-rows : goal.returns-in_err-rows
-returns-in_err-rows g c = reads_handed c.from_residual.ensures.1 c.in_err-rows.ensures.reads (λ own any told blamed so. c.in_err-rows.ensures.undamaged (ap Err blamed))
+returns-in_err-rows g c = reads_handed c.from_residual.ensures.1 c.in_err-rows.ensures.reads
+    (λ own any told blamed so. c.in_err-rows.ensures.undamaged (ap Err blamed))

@@ -6,4 +6,5 @@ pub returns-then-has_tables : goal.returns-then-has_tables
 returns-then-has_tables c = table_there c.args.names c.args.schema.now c.has_tables.result (search rules) (search rules)
 
 pub returns-else-has_tables : goal.returns-else-has_tables
-returns-else-has_tables c = view_there c.args.names c.args.schema.now c.has_tables.result c.has_views.result (search rules) (search rules) (search rules)
+returns-else-has_tables c = view_there c.args.names c.args.schema.now c.has_tables.result c.has_views.result (search rules) (search rules)
+    (search rules)

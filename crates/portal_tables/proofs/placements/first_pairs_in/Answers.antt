@@ -9,7 +9,8 @@ pub returns-in_err-rows : goal.returns-in_err-rows
 returns-in_err-rows g c =
     let now = (state g.S.Store c.args.conn.now).now in
     reads_handed c.from_residual.ensures.1 c.in_err-rows.ensures.reads
-    (λ own any told blamed it. told blamed (λ rows shown. roll_rises (4 ∷ []) (now.trees student_tree) rows shown (key_texts now (OfRoll Students) own it.0) it.1))
+    (λ own any told blamed it. told blamed (λ rows shown. roll_rises (4 ∷ []) (now.trees student_tree) rows shown
+    (key_texts now (OfRoll Students) own it.0) it.1))
 
 pub returns : goal.returns
 returns g c =
@@ -18,5 +19,6 @@ returns g c =
     reads_more rows.ensures.reads
     (λ own any shown.
     let same = c.deref.ensures.value ∙ roll_shown (4 ∷ []) table rows.rows.items shown rows.ensures.rise in
-    judged c.pairs_from.result _ _ (IfOk-weaker c.pairs_from.result _ _ (λ v is. is ∙ ap (filter_map first_pair) same) c.pairs_from.ensures.ok)
+    judged c.pairs_from.result _ _ (IfOk-weaker c.pairs_from.result _ _
+    (λ v is. is ∙ ap (filter_map first_pair) same) c.pairs_from.ensures.ok)
     (λ damaged it. c.pairs_from.ensures.damaged damaged (subst (AllByRecursion HasPairKeys) (sym same) it.2)))

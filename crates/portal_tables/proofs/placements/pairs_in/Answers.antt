@@ -11,11 +11,13 @@ returns-in_err-pair g c =
     (λ own sound told blamed it.
     told.1 blamed (
       at_item (λ c. IsStudent (shown_student c)) rows _ _ c.row-item.is c.loop-row-test.true it.0,
-      at_item (HasPlacementAsked c.args.round c.args.phase (state g.S.Store c.args.conn.now).now.trees) rows _ _ c.row-item.is c.loop-row-test.true it.1,
+      at_item (HasPlacementAsked c.args.round c.args.phase (state g.S.Store c.args.conn.now).now.trees) rows _ _ c.row-item.is
+          c.loop-row-test.true it.1,
     ))
 
 pub returns-in_err-push_some : goal.returns-in_err-push_some
-returns-in_err-push_some g c = reads_short c.from_residual-in_err-push_some.ensures.1 (reads_then c.loop-row.invariant c.in_ok-pair.ensures) (λ own sound told blamed. absurd (cc))
+returns-in_err-push_some g c = reads_short c.from_residual-in_err-push_some.ensures.1 (reads_then c.loop-row.invariant c.in_ok-pair.ensures)
+    (λ own sound told blamed. absurd (cc))
 
 pub loop-row-preserved : goal.loop-row-preserved
 loop-row-preserved g c =
@@ -23,7 +25,8 @@ loop-row-preserved g c =
     reads_more (reads_then c.loop-row.invariant c.in_ok-pair.ensures)
     (λ own sound told.
     c.in_ok-push_some.ensures
-    ∙ next_given f c.args.rows.now c.loop-row.row-index c.row-item.result c.loop-row.pairs.items c.in_ok-pair.pair c.row-item.is c.loop-row-test.true told.0 told.1)
+    ∙ next_given f c.args.rows.now c.loop-row.row-index c.row-item.result c.loop-row.pairs.items c.in_ok-pair.pair c.row-item.is
+    c.loop-row-test.true told.0 told.1)
 
 pub loop-row-init : goal.loop-row-init
 loop-row-init g c = reads_self (λ own sound. search rules)
@@ -31,4 +34,5 @@ loop-row-init g c = reads_self (λ own sound. search rules)
 pub returns : goal.returns
 returns g c =
     let f = pair_shown c.args.round c.args.phase (state g.S.Store c.args.conn.now).now.trees in
-    reads_more c.loop-row.invariant (λ own sound is. is ∙ ap (filter_map f) (take_all c.loop-row.row-index c.args.rows.now (omega (arith, c.loop-row-test.false))))
+    reads_more c.loop-row.invariant (λ own sound is. is
+    ∙ ap (filter_map f) (take_all c.loop-row.row-index c.args.rows.now (omega (arith, c.loop-row-test.false))))

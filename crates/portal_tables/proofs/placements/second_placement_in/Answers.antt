@@ -10,10 +10,18 @@ returns g c =
     let r = c.at_most_one.result in
     reads_more (reads_of (λ own. own) (λ own sound. tt) c.in_ok-names.ensures.reads)
     (λ own sound told.
-    judged r _ _ (IfOk-weaker r _ _ (λ p is. place_found now own sound student told.rows told.shown p (is ∙ told.decoded)) c.at_most_one.ensures.ok)
-    (λ damaged it. c.at_most_one.ensures.damaged damaged (omega (arith, (place_fine now own sound student told.rows told.shown it.0 it.1).0, ap length told.decoded, length-map told.rows shown_name))))
+    judged r _ _ (IfOk-weaker r _ _ (λ p is. place_found now own sound student told.rows told.shown p (is ∙ told.decoded))
+    c.at_most_one.ensures.ok)
+    (λ damaged it. c.at_most_one.ensures.damaged damaged
+    (omega (
+      arith,
+      (place_fine now own sound student told.rows told.shown it.0 it.1).0,
+      ap length told.decoded,
+      length-map told.rows shown_name,
+    ))))
 
 pub returns-in_err-names : goal.returns-in_err-names
 returns-in_err-names g c =
     reads_handed c.from_residual.ensures.1 (reads_of (λ own. own) (λ own sound. tt) c.in_err-names.ensures.reads)
-    (λ own sound told blamed it. told blamed (λ rows shown. (place_fine (state g.S.Store c.args.conn.now).now own sound c.args.student.now rows shown it.0 it.1).1))
+    (λ own sound told blamed it. told blamed
+    (λ rows shown. (place_fine (state g.S.Store c.args.conn.now).now own sound c.args.student.now rows shown it.0 it.1).1))

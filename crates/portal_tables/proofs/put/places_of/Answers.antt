@@ -8,6 +8,8 @@ loop-item-preserved c =
     record {
       at = ap (λ n. n + 1) c.loop-item.invariant.at;
       is = ap (map place_new) c.in_ok-push.ensures.items
-          ∙ cells_next place_new c.loop-item.rows.items row c.args.owner.now c.item-item.result c.args.items.now c.loop-item.item-index c.loop-item.place c.loop-item.invariant.at c.loop-item-test.true c.item-item.is
-          (λ i. place_cells (c.as_bytes.ensures.bytes i) (pos (c.loop-item.place + 1)) (c.as_bytes-in-loop-item.ensures.bytes i)) c.loop-item.invariant.is;
+          ∙ cells_next place_new c.loop-item.rows.items row c.args.owner.now c.item-item.result c.args.items.now c.loop-item.item-index
+          c.loop-item.place c.loop-item.invariant.at c.loop-item-test.true c.item-item.is
+          (λ i. place_cells (c.as_bytes.ensures.bytes i) (pos (c.loop-item.place + 1))
+          (c.as_bytes-in-loop-item.ensures.bytes i)) c.loop-item.invariant.is;
     }

@@ -9,5 +9,6 @@ returns g c =
     let project = option_map (λ p. p.now) c.a.inside.project in
     subst (λ it. Does g.S.Store (Made (Assigns (it ∷ []))) c.write.result c.args.tx.now c.write.new.tx) c.a.view_is
     (does_more g.S.Store _ _ _ _ _
-    (subst (λ v. Does g.S.Store (Ran update_one (Text student ∷ v ∷ [])) c.write.result c.args.tx.now c.write.new.tx) (ap bound_value c.text_or_null.ensures ∙ assigned_bound project) c.write.ensures)
+    (subst (λ v. Does g.S.Store (Ran update_one (Text student ∷ v ∷ [])) c.write.result c.args.tx.now c.write.new.tx)
+    (ap bound_value c.text_or_null.ensures ∙ assigned_bound project) c.write.ensures)
     (one_assigned student project _ _))

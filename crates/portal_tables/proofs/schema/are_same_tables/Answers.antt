@@ -12,6 +12,8 @@ loop-i-preserved c =
     let here = next_item a i c.index-a-i.result c.index-a-i.is c.loop-i-test.true in
     let there = next_item b i c.index-b-i.result c.index-b-i.is (omega arith) in
     record {
-      so_far = subst₂ (AllZip SameParts) (sym here) (sym there) (all_zipped_more SameParts (take i a) (take i b) _ _ c.loop-i.invariant.so_far (c.is_same_table.ensures.0 c.if-not-is_same_table.false));
+      so_far = subst₂ (AllZip SameParts) (sym here) (sym there)
+          (all_zipped_more SameParts (take i a) (take i b) _ _ c.loop-i.invariant.so_far
+          (c.is_same_table.ensures.0 c.if-not-is_same_table.false));
       lengths = c.loop-i.invariant.lengths;
     }

@@ -13,5 +13,6 @@ returns g c =
     asks c.args.query _ _ c.text.ensures values c.query_any.result old new it.leaves.same it.leaves.err it.leaves.mode it.leaves.survives
     (λ own clean.
     let sure = plain c.args.query _ _ c.text.ensures values schema in
-    found_any _ c.text.result.now (bound c.values.result.now) old new sure (λ rows. shows c.args.query _ _ c.text.ensures values old new rows own) (ends c.args.query _ _ c.text.ensures values schema own)
+    found_any _ c.text.result.now (bound c.values.result.now) old new sure
+    (λ rows. shows c.args.query _ _ c.text.ensures values old new rows own) (ends c.args.query _ _ c.text.ensures values schema own)
     c.query_any.result (it.leaves.same sure clean) (it.none sure clean) (it.some sure clean))

@@ -11,8 +11,10 @@ returns-clause-reads g c =
     let new = state g.S.Store c.query_all.new.self in
     let values = ap bound c.values.ensures ∙ c.value.ensures in
     let it = c.query_all.ensures in
-    asks c.args.query _ _ c.text.ensures values c.query_all.result old new (λ plain clean. IfOk-weaker c.query_all.result _ _ (λ v. shown_same _ _ old new v.items plain) (it.ok clean))
-    (λ plain clean. IfErr-weaker c.query_all.result _ _ (λ e. failed_leaves _ _ old new e plain) (it.err clean)) it.mode (survives_weaker old new _ _ (λ _ db made plain. never_commits _ _ old db plain made) it.survives)
+    asks c.args.query _ _ c.text.ensures values c.query_all.result old new
+    (λ plain clean. IfOk-weaker c.query_all.result _ _ (λ v. shown_same _ _ old new v.items plain) (it.ok clean))
+    (λ plain clean. IfErr-weaker c.query_all.result _ _ (λ e. failed_leaves _ _ old new e plain) (it.err clean)) it.mode
+    (survives_weaker old new _ _ (λ _ db made plain. never_commits _ _ old db plain made) it.survives)
     (λ own clean. IfOk-weaker c.query_all.result _ _ (λ v. shows c.args.query _ _ c.text.ensures values old new v.items own) (it.ok clean))
 
 pub returns-clause-answers : goal.returns-clause-answers

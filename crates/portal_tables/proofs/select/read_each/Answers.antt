@@ -14,6 +14,12 @@ returns-clause-reads g c =
     asks c.args.query _ _ c.text.ensures values c.query_each.result old new it.leaves.same it.leaves.err it.leaves.mode it.leaves.survives
     (λ own clean.
     let sure = plain c.args.query _ _ c.text.ensures values schema in
-    answered c.query_each.result _ _ (IfOk-weaker c.query_each.result _ _ (λ v all. record { rows = all.rows; shown = shows c.args.query _ _ c.text.ensures values old new all.rows own all.shown; decoded = all.decoded }) (it.rows sure clean))
-    (λ e is blamed. none_refused g.T.FromCells.is_fine _ c.text.result.now (bound c.values.result.now) old new sure (λ rows. shows c.args.query _ _ c.text.ensures values old new rows own) (ends c.args.query _ _ c.text.ensures values schema own)
+    answered c.query_each.result _ _ (IfOk-weaker c.query_each.result _ _
+    (λ v all. record {
+      rows = all.rows;
+      shown = shows c.args.query _ _ c.text.ensures values old new all.rows own all.shown;
+      decoded = all.decoded;
+    }) (it.rows sure clean))
+    (λ e is blamed. none_refused g.T.FromCells.is_fine _ c.text.result.now (bound c.values.result.now) old new sure
+    (λ rows. shows c.args.query _ _ c.text.ensures values old new rows own) (ends c.args.query _ _ c.text.ensures values schema own)
     (it.refused sure clean (is ∙ ap Err blamed))))

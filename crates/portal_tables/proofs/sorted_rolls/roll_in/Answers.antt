@@ -10,5 +10,6 @@ returns g c =
     let columns = columns_of c.args.roll in
     let table = now.trees (roll_tree c.args.roll) in
     reads_as c.read_in_order.ensures.reads (λ no. no)
-    (λ own right told. told_more c.read_in_order.result _ _ _ _ _ c.read_in_order.ensures.rise told (λ v up shown. roll_shown columns table v.items shown up)
+    (λ own right told. told_more c.read_in_order.result _ _ _ _ _ c.read_in_order.ensures.rise told
+    (λ v up shown. roll_shown columns table v.items shown up)
     (λ e no blamed it. no blamed (λ rows shown. roll_rises columns table rows shown (key_texts now (OfRoll c.args.roll) own it.0) it.1)))

@@ -11,11 +11,13 @@ returns-in_ok-placed_at-in-Second g c =
 
 pub returns-in_err-lines-in-Second : goal.returns-in_err-lines-in-Second
 returns-in_err-lines-in-Second g c =
-    rw c.in-Second.is (reads_handed c.from_residual.ensures.1 (reads_open (reads_both c.in_err-lines-in-Second.ensures)) (λ own tables no damaged students. no damaged (of_first Second _ students)))
+    rw c.in-Second.is (reads_handed c.from_residual.ensures.1 (reads_open (reads_both c.in_err-lines-in-Second.ensures))
+    (λ own tables no damaged students. no damaged (of_first Second _ students)))
 
 pub returns-in_err-placed_at-in-Second : goal.returns-in_err-placed_at-in-Second
 returns-in_err-placed_at-in-Second g c =
-    rw c.in-Second.is (reads_short c.from_residual-in_err-placed_at-in-Second.ensures.1 (reads_open (reads_both c.in_ok-lines-in-Second.ensures)) (λ own tables told damaged. absurd (cc)))
+    rw c.in-Second.is (reads_short c.from_residual-in_err-placed_at-in-Second.ensures.1
+    (reads_open (reads_both c.in_ok-lines-in-Second.ensures)) (λ own tables told damaged. absurd (cc)))
 
 pub returns-in-First : goal.returns-in-First
 returns-in-First g c = search rules

@@ -25,14 +25,19 @@ loop-project-preserved g c =
     reads_more (reads_then c.loop-project.invariant (reads_then c.in_ok-lines.ensures c.in_ok-placed.ensures))
     (λ own tables told. record {
       applicants =
-          c.in_ok-add.ensures.applicants ∙ (λ i. told.0.applicants i ++ (key, persons ((c.deref-in-loop-project.ensures.value ∙ told.1.0) i)) ∷ [])
-          ∙ sym (ap (applicants_of_projects round db phase) next ∙ map-append (λ k. (k, persons (lines_shown round db phase k))) (take at keys) (key ∷ []));
+          c.in_ok-add.ensures.applicants ∙ (λ i. told.0.applicants i
+          ++ (key, persons ((c.deref-in-loop-project.ensures.value ∙ told.1.0) i)) ∷ [])
+          ∙ sym (ap (applicants_of_projects round db phase) next
+          ∙ map-append (λ k. (k, persons (lines_shown round db phase k))) (take at keys) (key ∷ []));
       placed =
           c.in_ok-add.ensures.placed
           ∙ (λ i. told.0.placed i ++ (key, (told.1.1 ∙ ap (placed_at_shown round db phase key) (c.deref.ensures.value ∙ told.1.0)) i) ∷ [])
-          ∙ sym (ap (placed_of_projects round db phase) next ∙ map-append (λ k. (k, placed_at_shown round db phase k (lines_shown round db phase k))) (take at keys) (key ∷ []));
+          ∙ sym (ap (placed_of_projects round db phase) next
+          ∙ map-append (λ k. (k, placed_at_shown round db phase k (lines_shown round db phase k))) (take at keys) (key ∷ []));
     })
 
 pub returns-in_err-add : goal.returns-in_err-add
 returns-in_err-add g c =
-    reads_short c.from_residual-in_err-add.ensures.1 (reads_then c.loop-project.invariant (reads_then c.in_ok-lines.ensures c.in_ok-placed.ensures)) (λ own tables told damaged. absurd (cc))
+    reads_short c.from_residual-in_err-add.ensures.1
+    (reads_then c.loop-project.invariant (reads_then c.in_ok-lines.ensures c.in_ok-placed.ensures))
+    (λ own tables told damaged. absurd (cc))

@@ -8,7 +8,8 @@ returns-in_err-listings g c =
     (λ own any told damaged fine. told.1 damaged (fine.0.sound, fine.1))
 
 pub returns-in_err-new : goal.returns-in_err-new
-returns-in_err-new g c = reads_short c.from_residual-in_err-new.ensures.1 (reads_then c.in_ok-offers.ensures c.in_ok-listings.ensures) (λ own any told damaged. absurd (cc))
+returns-in_err-new g c = reads_short c.from_residual-in_err-new.ensures.1 (reads_then c.in_ok-offers.ensures c.in_ok-listings.ensures)
+    (λ own any told damaged. absurd (cc))
 
 pub returns : goal.returns
 returns g c =

@@ -5,7 +5,9 @@ use Rattle.portal_views.proofs.lines.line_of_round.Goals as goal
 pub returns-in_err-placed-in-Second : goal.returns-in_err-placed-in-Second
 returns-in_err-placed-in-Second g c =
     rw c.in-Second.is (reads_handed c.from_residual.ensures.1 (reads_open c.in_err-placed-in-Second.ensures)
-    (λ own sound no r is damaged place. no damaged (subst (HasSecondPlace (state g.S.Store c.args.conn.now).now.trees) (is ∙ sym c.as_bytes.ensures.bytes) place)))
+    (λ own sound no r is damaged place. no damaged
+    (subst (HasSecondPlace (state g.S.Store c.args.conn.now).now.trees) (is ∙ sym c.as_bytes.ensures.bytes) place)))
 
 pub returns-in_ok-placed-in-Second : goal.returns-in_ok-placed-in-Second
-returns-in_ok-placed-in-Second g c = rw c.in-Second.is (reads_more (reads_open c.in_ok-placed-in-Second.ensures) (λ own sound told. search (rules, told)))
+returns-in_ok-placed-in-Second g c = rw c.in-Second.is
+    (reads_more (reads_open c.in_ok-placed-in-Second.ensures) (λ own sound told. search (rules, told)))

@@ -8,12 +8,14 @@ returns-in_err-line_in g c =
     reads_handed c.from_residual.ensures.1 (reads_then c.loop-row.invariant (reads_open c.in_err-line_in.ensures))
     (λ own tables told damaged known. told.1 damaged (
       known.0,
-      subst (IsStudentKey db) (sym c.bytes_at.ensures) (at_item (λ r. IsStudentKey db (first_cell r)) c.args.rows.now _ _ c.row-item.is c.loop-row-test.true known.1),
+      subst (IsStudentKey db) (sym c.bytes_at.ensures)
+          (at_item (λ r. IsStudentKey db (first_cell r)) c.args.rows.now _ _ c.row-item.is c.loop-row-test.true known.1),
     ))
 
 pub returns-in_err-push : goal.returns-in_err-push
 returns-in_err-push g c =
-    reads_short c.from_residual-in_err-push.ensures.1 (reads_then c.loop-row.invariant (reads_open c.in_ok-line_in.ensures)) (λ own tables told damaged. absurd (cc))
+    reads_short c.from_residual-in_err-push.ensures.1 (reads_then c.loop-row.invariant (reads_open c.in_ok-line_in.ensures))
+    (λ own tables told damaged. absurd (cc))
 
 pub loop-row-preserved : goal.loop-row-preserved
 loop-row-preserved g c =

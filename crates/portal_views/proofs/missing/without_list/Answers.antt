@@ -1,4 +1,4 @@
-use Rattle.portal_views.proofs.Base.{◌∙◌, ◌∷◌, IfOk-weaker, ListsBy, [], choice_table, columns, has_number, judged}
+use Rattle.portal_views.proofs.Base.{◌∙◌, ◌∷◌, IfOk-weaker, ListsBy, [], Choices, columns, has_number, judged}
 use Rattle.portal_views.proofs.Base.{reads_handed, reads_more, state, subst, sym, tree_of}
 use Rattle.portal_views.proofs.Turns.{reads_any}
 use Rattle.portal_views.proofs.RisingKeys.{listed_rise}
@@ -17,6 +17,8 @@ returns g c =
     let round = c.args.round in
     reads_more (reads_any c.in_ok-listed.ensures.reads)
     (λ own lists told.
-    let shown : ListsBy (1 ∷ []) (has_number 2 1) (columns (1 ∷ [])) (db.trees (tree_of (choice_table round))) c.deref.result.now =
-    subst (λ rows. ListsBy (1 ∷ []) (has_number 2 1) (columns (1 ∷ [])) (db.trees (tree_of (choice_table round))) rows) (sym c.deref.ensures.value) told in
-    judged r _ _ (IfOk-weaker r _ _ (λ v is. is ∙ unlisted_are round db lists c.deref.result.now shown c.args.students.now) c.keys_not_among.ensures.ok) c.keys_not_among.ensures.damaged)
+    let shown : ListsBy (1 ∷ []) (has_number 2 1) (columns (1 ∷ [])) (db.trees (tree_of (Choices round))) c.deref.result.now =
+    subst (λ rows. ListsBy (1 ∷ []) (has_number 2 1) (columns (1 ∷ [])) (db.trees (tree_of (Choices round))) rows)
+    (sym c.deref.ensures.value) told in
+    judged r _ _ (IfOk-weaker r _ _ (λ v is. is ∙ unlisted_are round db lists c.deref.result.now shown c.args.students.now)
+    c.keys_not_among.ensures.ok) c.keys_not_among.ensures.damaged)

@@ -14,7 +14,8 @@ use Rattle.portal_views.proofs.office.office_view.Goals as goal
 -- what the reading of the tables asks, of the rolls that were read
 readable : (round : Round) (db : Database) (rolls : Rolls) → AreRolls db.trees rolls → IsReadableByOffice round db
     → AreReadable round rolls.lecturers.items rolls.projects.items rolls.students.items db
-readable round db rolls are fine = subst₃ (λ ls ps ss. AreReadable round ls ps ss db) (sym are.lecturers_are) (sym are.projects_are) (sym are.students_are) fine
+readable round db rolls are fine = subst₃ (λ ls ps ss. AreReadable round ls ps ss db) (sym are.lecturers_are) (sym are.projects_are)
+    (sym are.students_are) fine
 
 pub returns-in_err-rolls : goal.returns-in_err-rolls
 returns-in_err-rolls g c =
@@ -32,17 +33,21 @@ returns-in_err-rolls g c =
 pub returns-in_err-unlisted : goal.returns-in_err-unlisted
 returns-in_err-unlisted g c =
     let rolls = c.in_ok-rolls.rolls in
-    reads_handed c.from_residual-in_err-unlisted.ensures.1 (reads_then (reads_first c.in_ok-rolls.ensures) (reads_open (rw c.deref.ensures.value at c.in_err-unlisted.ensures)))
+    reads_handed c.from_residual-in_err-unlisted.ensures.1
+    (reads_then (reads_first c.in_ok-rolls.ensures) (reads_open (rw c.deref.ensures.value at c.in_err-unlisted.ensures)))
     (λ own lists told damaged fine. told.1 damaged
-    (all_weaker (λ r. IsStudent (shown_student r)) HasKeyForm (λ r is. is.key) rolls.students.items (readable c.args.round (state g.S.Store c.args.conn.now).now rolls told.0 fine).student_forms))
+    (all_weaker (λ r. IsStudent (shown_student r)) HasKeyForm (λ r is. is.key) rolls.students.items
+    (readable c.args.round (state g.S.Store c.args.conn.now).now rolls told.0 fine).student_forms))
 
 pub returns-in_err-waiting : goal.returns-in_err-waiting
 returns-in_err-waiting g c =
     let rolls = c.in_ok-rolls.rolls in
     let f = c.in_err-waiting in
-    reads_handed c.from_residual-in_err-waiting.ensures.1 (reads_then (reads_first c.in_ok-rolls.ensures) (reads_then (reads_open c.in_ok-unlisted.ensures) f.ensures.reads))
+    reads_handed c.from_residual-in_err-waiting.ensures.1
+    (reads_then (reads_first c.in_ok-rolls.ensures) (reads_then (reads_open c.in_ok-unlisted.ensures) f.ensures.reads))
     (λ own lists told damaged fine. f.ensures.damaged (ap Err damaged)
-    (all_weaker (λ r. IsLecturer (shown_lecturer r)) HasKeyForm (λ r is. is.key) rolls.lecturers.items (readable c.args.round (state g.S.Store c.args.conn.now).now rolls told.0 fine).lecturer_forms))
+    (all_weaker (λ r. IsLecturer (shown_lecturer r)) HasKeyForm (λ r is. is.key) rolls.lecturers.items
+    (readable c.args.round (state g.S.Store c.args.conn.now).now rolls told.0 fine).lecturer_forms))
 
 pub returns-in_err-pairs : goal.returns-in_err-pairs
 returns-in_err-pairs g c =
@@ -51,10 +56,12 @@ returns-in_err-pairs g c =
     let round = c.args.round in
     let read = reads_whole c.in_err-pairs.ensures in
     reads_handed c.from_residual-in_err-pairs.ensures.1
-    (reads_then (reads_first c.in_ok-rolls.ensures) (reads_then (reads_open c.in_ok-unlisted.ensures) (reads_then c.in_ok-waiting.ensures.reads (rw c.deref-2.ensures.value at read))))
+    (reads_then (reads_first c.in_ok-rolls.ensures)
+    (reads_then (reads_open c.in_ok-unlisted.ensures) (reads_then c.in_ok-waiting.ensures.reads (rw c.deref-2.ensures.value at read))))
     (λ own lists told damaged fine. let is = readable round db rolls told.0 fine in told.1.1.1 damaged (
       is.student_forms,
-      all_two HasFirstPlace (HasPlacement round db.trees) (HasPlacementAsked round (Some c.args.office.phase) db.trees) (λ r first place. (first, place)) rolls.students.items is.first is.places,
+      all_two HasFirstPlace (HasPlacement round db.trees) (HasPlacementAsked round (Some c.args.office.phase) db.trees)
+          (λ r first place. (first, place)) rolls.students.items is.first is.places,
     ))
 
 pub returns : goal.returns
@@ -67,11 +74,17 @@ returns g c =
     let read = reads_whole c.in_ok-pairs.ensures in
     reads_more
     (reads_then (reads_first c.in_ok-rolls.ensures)
-    (reads_then (reads_open (rw c.deref.ensures.value at c.in_ok-unlisted.ensures)) (reads_then c.in_ok-waiting.ensures.reads (rw c.deref-2.ensures.value at read))))
+    (reads_then (reads_open (rw c.deref.ensures.value at c.in_ok-unlisted.ensures))
+    (reads_then c.in_ok-waiting.ensures.reads (rw c.deref-2.ensures.value at read))))
     (λ own lists told.
     let it = told.0 in
     judged r _ _
     (IfOk-weaker r _ _
-    (λ v is. is ∙ (λ i. record (sees rolls.lecturers.items rolls.projects.items rolls.students.items) { without_list = told.1.0 i; still_to_rank = told.1.1.0 i; pairs = told.1.1.1 i })
+    (λ v is. is ∙ (λ i. record (sees rolls.lecturers.items rolls.projects.items rolls.students.items) {
+      without_list = told.1.0 i;
+      still_to_rank = told.1.1.0 i;
+      pairs = told.1.1.1 i;
+    })
     ∙ (λ i. sees (it.lecturers_are i) (it.projects_are i) (it.students_are i))) c.office_view_from.ensures.ok)
-    (λ damaged fine. let is = readable round db rolls it fine in c.office_view_from.ensures.damaged damaged is.lecturer_forms is.project_forms is.student_forms))
+    (λ damaged fine. let is = readable round db rolls it fine in
+    c.office_view_from.ensures.damaged damaged is.lecturer_forms is.project_forms is.student_forms))

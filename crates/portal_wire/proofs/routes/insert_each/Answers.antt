@@ -16,8 +16,10 @@ inserted (Err why) at old new u is = is.0
 
 one_more : (table : List (Bor (List ℕ) × Route)) (first old new : RowsOf (RouteOf Route)) (i : ℕ) (d : Bor (List ℕ) × Route)
     → i < length table
-    → old ≡ fold with_route first (take i table) → new ≡ with_route old (get_or table i d) → new ≡ fold with_route first (take (i + 1) table)
-one_more table first old new i d less so is = is ∙ (ap (λ rows. with_route rows (get_or table i d)) so ∙ sym (fold_more with_route first table i d less))
+    → old ≡ fold with_route first (take i table) → new ≡ with_route old (get_or table i d)
+    → new ≡ fold with_route first (take (i + 1) table)
+one_more table first old new i d less so is = is
+    ∙ (ap (λ rows. with_route rows (get_or table i d)) so ∙ sym (fold_more with_route first table i d less))
 
 pub loop-entry-preserved : goal.loop-entry-preserved
 loop-entry-preserved c = one_more _ _ _ _ _ _ c.loop-entry-test.true c.loop-entry.invariant (inserted _ _ _ _ _ c.in_ok-insert.ensures)

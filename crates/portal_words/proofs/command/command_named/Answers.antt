@@ -12,11 +12,14 @@ returns-in-solve-clause-solve c is = c.get_str-in-solve.ensures ∙ first_value-
 
 pub returns-in_err-get_str-in_default-clause-database : goal.returns-in_err-get_str-in_default-clause-database
 returns-in_err-get_str-in_default-clause-database c db takes is =
-    let some : option_map (λ p. p.now) c.get_str-in_default.result ≡ Some db = c.get_str-in_default.ensures ∙ first_value-rows (found_of c.args.matches.now) (codes "DB") ∙ is in
+    let some : option_map (λ p. p.now) c.get_str-in_default.result ≡ Some db = c.get_str-in_default.ensures
+    ∙ first_value-rows (found_of c.args.matches.now) (codes "DB") ∙ is in
     absurd (first_of (grind (arith, some, c.branch-get_str.ensures, c.in_err-get_str-in_default.ensures), search (rules, some)))
 
 pub returns-in_ok-get_str-in_default-clause-database : goal.returns-in_ok-get_str-in_default-clause-database
 returns-in_ok-get_str-in_default-clause-database c db takes is =
-    let some : option_map (λ p. p.now) c.get_str-in_default.result ≡ Some db = c.get_str-in_default.ensures ∙ first_value-rows (found_of c.args.matches.now) (codes "DB") ∙ is in
-    let same : c.in_ok-get_str-in_default.field-0.now ≡ db = first_of (grind (arith, some, c.branch-get_str.ensures, c.in_ok-get_str-in_default.ensures), search (rules, some)) in
+    let some : option_map (λ p. p.now) c.get_str-in_default.result ≡ Some db = c.get_str-in_default.ensures
+    ∙ first_value-rows (found_of c.args.matches.now) (codes "DB") ∙ is in
+    let same : c.in_ok-get_str-in_default.field-0.now
+    ≡ db = first_of (grind (arith, some, c.branch-get_str.ensures, c.in_ok-get_str-in_default.ensures), search (rules, some)) in
     subst (λ d. IsSomeAnd c.on_database.result (IsOverDatabase c.args.name.now d)) same (c.on_database.ensures takes)

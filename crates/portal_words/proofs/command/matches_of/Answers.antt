@@ -8,23 +8,27 @@ returns-clause-matches g c name file h =
     let app = c.in_ok-portal.ensures.app in
     let ws = map g.S.AsStr.text c.args.words.now in
     IfOk-weaker c.try_get_matches_from.result _ _
-    (λ m k. subst (λ met. MeetsFile met name file) (sym ((k (ap is_simple app ∙ simple)).1 ∙ ap (λ (a : App). subcommand_of a ws) app)) (is_met ws name file h)) c.try_get_matches_from.ensures.matches
+    (λ m k. subst (λ met. MeetsFile met name file) (sym ((k (ap is_simple app ∙ simple)).1 ∙ ap (λ (a : App). subcommand_of a ws) app))
+    (is_met ws name file h)) c.try_get_matches_from.ensures.matches
 
 pub returns-clause-passes : goal.returns-clause-passes
 returns-clause-passes g c name file h =
     let app = c.in_ok-portal.ensures.app in
     let ws = map g.S.AsStr.text c.args.words.now in
-    IfErr-weaker c.try_get_matches_from.result _ _ (λ e k. k (ap (λ (a : App). takes a ws) app ∙ taken ws name file h)) c.try_get_matches_from.ensures.passes
+    IfErr-weaker c.try_get_matches_from.result _ _
+    (λ e k. k (ap (λ (a : App). takes a ws) app ∙ taken ws name file h)) c.try_get_matches_from.ensures.passes
 
 pub returns-clause-database : goal.returns-clause-database
 returns-clause-database g c name db h =
     let app = c.in_ok-portal.ensures.app in
     let ws = map g.S.AsStr.text c.args.words.now in
     IfOk-weaker c.try_get_matches_from.result _ _
-    (λ m k. subst (λ met. MeetsDatabase met name db) (sym ((k (ap is_simple app ∙ simple)).1 ∙ ap (λ (a : App). subcommand_of a ws) app)) (is_met_database ws name db h)) c.try_get_matches_from.ensures.matches
+    (λ m k. subst (λ met. MeetsDatabase met name db) (sym ((k (ap is_simple app ∙ simple)).1 ∙ ap (λ (a : App). subcommand_of a ws) app))
+    (is_met_database ws name db h)) c.try_get_matches_from.ensures.matches
 
 pub returns-clause-passes_database : goal.returns-clause-passes_database
 returns-clause-passes_database g c name db h =
     let app = c.in_ok-portal.ensures.app in
     let ws = map g.S.AsStr.text c.args.words.now in
-    IfErr-weaker c.try_get_matches_from.result _ _ (λ e k. k (ap (λ (a : App). takes a ws) app ∙ taken_database ws name db h)) c.try_get_matches_from.ensures.passes
+    IfErr-weaker c.try_get_matches_from.result _ _
+    (λ e k. k (ap (λ (a : App). takes a ws) app ∙ taken_database ws name db h)) c.try_get_matches_from.ensures.passes

@@ -11,5 +11,6 @@ loop-persons-preserved c =
     known_alike _ _ c.add_persons.new.keys
     (λ k. let test = λ (ps : List Person). list_any (λ s. equals s.key k) ps in
     ap (λ (ps : List Person). is_applicant before k || test ps) c.deref.ensures.value
-    ∙ sym (passed_more test c.args.projects.now c.loop-persons.persons-index c.loop-persons-item.result (omega arith) c.loop-persons-item.is))
+    ∙ sym (passed_more test c.args.projects.now c.loop-persons.persons-index c.loop-persons-item.result
+    (omega arith) c.loop-persons-item.is))
     (c.in_ok-add_persons.ensures (is_applicant before) c.loop-persons.invariant)

@@ -13,7 +13,8 @@ returns-in-Err-clause-serves g c =
     let failed = c.in-Err.ensures.err in
     record {
       worked = x.worked;
-      served = rw (c.serve_fault.ensures.cause, c.serve_fault.ensures.requests) (missed x.told _ _ c.in-Err.cause _ failed.causes failed.left c.in-Err.ensures.none);
+      served = rw (c.serve_fault.ensures.cause, c.serve_fault.ensures.requests)
+          (missed x.told _ _ c.in-Err.cause _ failed.causes failed.left c.in-Err.ensures.none);
       taken = missed_taken _ _ x.bound x.held x.taken failed.taken;
       stays = let causes = failed.causes in search rules;
       settles = let causes = failed.causes in search rules;
@@ -24,7 +25,8 @@ returns-in-End-clause-serves g c =
     let x = c.loop-found.invariant in
     record {
       worked = x.worked;
-      served = rw (c.served_result.ensures.requests, c.served_result.ensures.ending) (end_known x.told _ _ (rw c.in-End.is at c.in-Ok.ensures.follows));
+      served = rw (c.served_result.ensures.requests, c.served_result.ensures.ending)
+          (end_known x.told _ _ (rw c.in-End.is at c.in-Ok.ensures.follows));
       taken = ended_taken x.bound c.in-Ok.ensures.held x.taken c.in-Ok.ensures.follows;
       stays = search rules;
       settles = search rules;
@@ -36,7 +38,8 @@ returns-in-Bad-clause-serves g c =
     record {
       worked = x.worked;
       served = rw (c.served_result-in-Bad.ensures.requests, c.served_result-in-Bad.ensures.ending)
-          (bad_known x.told _ _ _ c.in-Bad.refusal c.in-Bad.head_only (rw c.in-Bad.is at c.in-Ok.ensures.follows) c.in-Ok-send_refusal.ensures.writes);
+          (bad_known x.told _ _ _ c.in-Bad.refusal c.in-Bad.head_only
+          (rw c.in-Bad.is at c.in-Ok.ensures.follows) c.in-Ok-send_refusal.ensures.writes);
       taken = ended_taken x.bound c.in-Ok.ensures.held x.taken c.in-Ok.ensures.follows;
       stays = search rules;
       settles = search rules;
@@ -48,7 +51,8 @@ returns-in-Err-send_refusal-clause-serves g c =
     record {
       worked = x.worked;
       served = rw (c.serve_fault-in-Err-send_refusal.ensures.cause, c.serve_fault-in-Err-send_refusal.ensures.requests)
-          (cut_known x.told _ _ _ c.in-Bad.refusal c.in-Bad.head_only (rw c.in-Bad.is at c.in-Ok.ensures.follows) c.in-Err-send_refusal.cause _ _ c.in-Err-send_refusal.ensures.writes);
+          (cut_known x.told _ _ _ c.in-Bad.refusal c.in-Bad.head_only
+          (rw c.in-Bad.is at c.in-Ok.ensures.follows) c.in-Err-send_refusal.cause _ _ c.in-Err-send_refusal.ensures.writes);
       taken = ended_taken x.bound c.in-Ok.ensures.held x.taken c.in-Ok.ensures.follows;
       stays = search rules;
       settles = search rules;
@@ -62,7 +66,8 @@ returns-in-Err-answer-clause-serves g c =
     record {
       worked = worked_more _ _ _ _ _ _ x.worked c.in-Err-answer.ensures.err.1 c.answer.ensures.counts;
       served = rw (c.serve_fault-in-Err-answer.ensures.cause, c.serve_fault-in-Err-answer.ensures.requests)
-          (broke_known x.told _ _ _ _ c.in-Request.request c.in-Request.used c.closes_now-closes.result (rw c.in-Request.is at c.in-Ok.ensures.follows) c.closes_now-closes.ensures
+          (broke_known x.told _ _ _ _ c.in-Request.request c.in-Request.used c.closes_now-closes.result
+          (rw c.in-Request.is at c.in-Ok.ensures.follows) c.closes_now-closes.ensures
           c.in-Err-answer.cause _ _ c.in-Err-answer.ensures.err);
       taken = ended_taken x.bound c.in-Ok.ensures.held x.taken c.in-Ok.ensures.follows;
       stays = search rules;
@@ -85,7 +90,8 @@ returns-then-closes-clause-serves g c =
     record {
       worked = worked_more _ _ _ _ _ _ x.worked c.in-Ok-answer.ensures.ok.1 c.answer.ensures.counts;
       served = rw (c.served_result-then-closes.ensures.requests, c.served_result-then-closes.ensures.ending, c.ending_of.ensures)
-          (closes_known x.told _ _ _ _ c.in-Request.request c.in-Request.used c.closes_now-closes.result (rw c.in-Request.is at c.in-Ok.ensures.follows) c.closes_now-closes.ensures
+          (closes_known x.told _ _ _ _ c.in-Request.request c.in-Request.used c.closes_now-closes.result
+          (rw c.in-Request.is at c.in-Ok.ensures.follows) c.closes_now-closes.ensures
           (c.in-Ok-answer.ensures.ok.0, c.in-Ok-answer.ensures.ok.1, c.in-Ok-answer.ensures.ok.2.1) c.if-closes.true);
       taken = ended_taken x.bound c.in-Ok.ensures.held x.taken c.in-Ok.ensures.follows;
       stays = λ f. absurd (still_failed _ _ _ (λ e. (x.waits e).1) c.answer.ensures.stays c.in-Ok-answer.ensures.ok.2.0 f);
@@ -111,7 +117,8 @@ pub loop-found-preserved : goal.loop-found-preserved
 loop-found-preserved g c =
     let x = c.loop-found.invariant in
     record {
-      bound = goes_on c.loop-found.done (request_content c.in-Request.request) c.closes_now-closes.result x.bound c.if-closes.false c.closes_now-closes.ensures;
+      bound = goes_on c.loop-found.done (request_content c.in-Request.request) c.closes_now-closes.result x.bound
+          c.if-closes.false c.closes_now-closes.ensures;
       reader = c.in-Ok.ensures.failures ∙ x.reader;
       writer = c.in-Ok-answer.ensures.failures ∙ x.writer;
       source = c.in-Ok.ensures.same_device ∙ x.source;
@@ -119,10 +126,14 @@ loop-found-preserved g c =
       calm = c.in-Ok-answer.ensures.ok.2.0 ∙ sym (calm_before _ _ _ _ c.answer.ensures.counts c.in-Ok-answer.ensures.ok.2.0) ∙ x.calm;
       waits = λ f. absurd (still_failed _ _ _ (λ e. (x.waits e).1) c.answer.ensures.stays c.in-Ok-answer.ensures.ok.2.0 f);
       held = cut_held c.in-Request.used _ _ c.cut_front.ensures c.in-Ok.ensures.held;
-      taken = cut_taken c.in-Request.used _ _ (rw c.in-Request.is at c.in-Ok.ensures.follows).within.1 c.cut_front.ensures (follows_taken x.taken c.in-Ok.ensures.follows);
+      taken = cut_taken c.in-Request.used _ _ (rw c.in-Request.is at c.in-Ok.ensures.follows).within.1 c.cut_front.ensures
+          (follows_taken x.taken c.in-Ok.ensures.follows);
       worked = worked_more _ _ _ _ _ _ x.worked c.in-Ok-answer.ensures.ok.1 c.answer.ensures.counts;
-      told = more_known x.told _ _ _ _ c.in-Request.request c.in-Request.used c.closes_now-closes.result (rw c.in-Request.is at c.in-Ok.ensures.follows)
-          c.closes_now-closes.ensures c.cut_front.new.buffer.items (c.in-Ok-answer.ensures.ok.0, c.in-Ok-answer.ensures.ok.1, c.in-Ok-answer.ensures.ok.2.1) c.if-closes.false c.cut_front.ensures;
+      told = more_known x.told _ _ _ _ c.in-Request.request c.in-Request.used c.closes_now-closes.result
+          (rw c.in-Request.is at c.in-Ok.ensures.follows)
+          c.closes_now-closes.ensures c.cut_front.new.buffer.items
+          (c.in-Ok-answer.ensures.ok.0, c.in-Ok-answer.ensures.ok.1, c.in-Ok-answer.ensures.ok.2.1)
+          c.if-closes.false c.cut_front.ensures;
     }
 
 pub unreachable-requires : goal.unreachable-requires

@@ -26,7 +26,7 @@ returns-in-Ok-create-clause-works g c =
       disk = λ clean. clean_before _ _ _ is.makes.crash
           (subst (λ h. HasCleanDisk (state g.S.Store h)) closes.same clean);
       did = λ clean. record {
-        serves = unserved old new c.settled.ensures.settled (g.met.S.Store.settled c.args.conn.store)
+        serves = unserved old new c.outside_transaction.ensures.committed (g.met.S.Store.settled c.args.conn.store)
             (λ w stands db may. absurd (both_ways _ is.free (none_free g.S.Store c.args.conn w stands)));
         made =
             subst (λ office. Good (first_world office) × AllStand Current new.may_leave (λ w. w ≡ first_world office))
@@ -52,7 +52,7 @@ returns-in-Err-clause-works g c =
     record {
       disk = clean_before old new _ is.back.crash;
       did = λ clean. record {
-        serves = unserved old new c.settled.ensures.settled (g.met.S.Store.settled c.args.conn.store)
+        serves = unserved old new c.outside_transaction.ensures.committed (g.met.S.Store.settled c.args.conn.store)
             (λ w stands db may. inl
             (subst (λ h. (state g.S.Store h).may_leave db)
             (is.untouched (is.exists.0 (none_free g.S.Store c.args.conn w stands))) may));
@@ -69,7 +69,7 @@ returns-in-Err-clause-works g c =
         kept = λ free. subst
             (λ office. (db : Trees) → new.may_leave db → MayMake c.in-Err.field-0.fault office old.now db)
             c.in-Ok.ensures
-            (may_make old c.settled.ensures.settled (g.met.S.Store.settled c.args.conn.store) free new clean
+            (may_make old c.outside_transaction.ensures.committed (g.met.S.Store.settled c.args.conn.store) free new clean
             c.in-Err.field-0.fault _ empty is.back.crash);
       };
     }
@@ -81,7 +81,7 @@ returns-then-not-is_empty-clause-works g c =
     record {
       disk = λ clean. clean;
       did = λ clean. record {
-        serves = unserved old old c.settled.ensures.settled (g.met.S.Store.settled c.args.conn.store)
+        serves = unserved old old c.outside_transaction.ensures.committed (g.met.S.Store.settled c.args.conn.store)
             (λ w stands db may. inl may);
         made = tt;
         lasting = tt;
@@ -91,7 +91,7 @@ returns-then-not-is_empty-clause-works g c =
           λ other. refl,
         );
         exists = λ exists new. both_ways _ c.if-not-is_empty.true (c.is_empty.ensures.1 (c.schema.ensures.value ∙ new));
-        kept = λ free. same_before old c.settled.ensures.settled (g.met.S.Store.settled c.args.conn.store) free;
+        kept = λ free. same_before old c.outside_transaction.ensures.committed (g.met.S.Store.settled c.args.conn.store) free;
       };
     }
 
@@ -101,7 +101,7 @@ returns-in_default-clause-works g c =
     record {
       disk = λ clean. clean;
       did = λ clean. record {
-        serves = unserved old old c.settled.ensures.settled (g.met.S.Store.settled c.args.conn.store)
+        serves = unserved old old c.outside_transaction.ensures.committed (g.met.S.Store.settled c.args.conn.store)
             (λ w stands db may. inl may);
         made = tt;
         lasting = tt;
@@ -112,6 +112,6 @@ returns-in_default-clause-works g c =
         );
         exists = λ exists. absurd (cc);
         kept = λ free db may. inl
-            (same_before old c.settled.ensures.settled (g.met.S.Store.settled c.args.conn.store) free db may);
+            (same_before old c.outside_transaction.ensures.committed (g.met.S.Store.settled c.args.conn.store) free db may);
       };
     }

@@ -1,9 +1,8 @@
-use Rattle.std.proofs.Common.{None, [], refl, sym, subst}
+use Rattle.std.proofs.Common.{refl, sym, subst}
 use Rattle.portal_store.specs.Calls.{OpensStore}
+use Rattle.portal_file.specs.Tables.{idle}
 use Rattle.portal_file.specs.inner.Connected.{ClosesAs}
-use Rattle.sqlite.specs.Held.{state}
-use Rattle.portal_file.proofs.Judged.{opened_still, stood_current}
-use Rattle.portal_file.proofs.Served.{disk_before, left_consistent, opened_so, serves_stream}
+use Rattle.portal_file.proofs.Served.{disk_before, opened_tables, serves_stream}
 use Rattle.portal_file.proofs.piping.PipeStreamJob.run.Goals as goal
 
 pub returns-in-Ok-clause-works : goal.returns-in-Ok-clause-works
@@ -12,24 +11,17 @@ returns-in-Ok-clause-works g c =
     let closes = subst (λ s. ClosesAs g.S.Store s c.close_tables.result) c.into_keeper.ensures.same
     c.close_tables.ensures.closes in
     let did = c.pipe-ended.ensures.serves in
-    let old = state g.S.Store c.args.conn in
     record {
       disk = disk_before g.S.Store c.args.conn c.close_tables.result c.new-desk.result.keeper
           c.pipe-ended.new.desk.keeper c.run_good.ensures opens closes did.worked.moves.1.breaks;
-      did = λ clean.
-          let opened = opened_so g.S.Store c.args.conn c.close_tables.result c.new-desk.result.keeper c.pipe-ended.new.desk.keeper c.run_good.ensures opens closes did.worked.moves.1.breaks clean in record {
-            serves = serves_stream g.S.Store c.args.conn c.close_tables.result c.new-desk.result.keeper
-                c.pipe-ended.new.desk.keeper c.run_good.ensures opens closes
-                c.pipe-ended.result c.pipe-ended.new.desk.failed _ _ _ _ did.worked.moves did.served clean;
-            opens = record {
-              judged = λ free. opened_still old free opened;
-              stood = λ free. stood_current old c.in-Ok.ensures.live free.is_open opened;
-              refused = tt;
-              lasting = λ free. left_consistent g.S.Store c.args.conn c.close_tables.result c.new-desk.result.keeper
-                  c.pipe-ended.new.desk.keeper c.run_good.ensures opens closes did.worked.moves.1.breaks clean;
-              kept = tt;
-            };
-          };
+      did = λ clean. record {
+        serves = serves_stream g.S.Store c.args.conn c.close_tables.result c.new-desk.result.keeper
+            c.pipe-ended.new.desk.keeper c.run_good.ensures opens closes
+            c.pipe-ended.result c.pipe-ended.new.desk.failed _ _ _ _ did.worked.moves did.served clean;
+        opens = opened_tables g.S.Store c.args.conn c.close_tables.result c.new-desk.result.keeper
+            c.pipe-ended.new.desk.keeper c.run_good.ensures opens closes
+            c.pipe-ended.result c.in-Ok.ensures.live did.worked.moves.1.breaks clean;
+      };
     }
 
 pub returns-in-Err-clause-works : goal.returns-in-Err-clause-works
@@ -39,7 +31,7 @@ returns-in-Err-clause-works g c =
       disk = refused.disk;
       did = λ clean. let is = refused.did clean in
           record {
-            serves = ([], None, is.serves, (refl, refl, refl));
+            serves = (idle, is.serves, (refl, refl, refl));
             opens = record { judged = is.judged; stood = tt; refused = is.denies; lasting = tt; kept = is.kept };
           };
     }

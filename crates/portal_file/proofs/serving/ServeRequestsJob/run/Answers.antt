@@ -1,9 +1,7 @@
 use Rattle.std.proofs.Common.{None, [], refl, rules, sym, subst}
 use Rattle.portal_store.specs.Calls.{OpensStore}
 use Rattle.portal_file.specs.inner.Connected.{ClosesAs}
-use Rattle.sqlite.specs.Held.{state}
-use Rattle.portal_file.proofs.Judged.{opened_still, stood_current}
-use Rattle.portal_file.proofs.Served.{disk_before, left_consistent, opened_so, serves}
+use Rattle.portal_file.proofs.Served.{disk_before, opened_tables, serves}
 use Rattle.portal_file.proofs.serving.ServeRequestsJob.run.Goals as goal
 
 pub returns-in-Ok-clause-works : goal.returns-in-Ok-clause-works
@@ -12,27 +10,19 @@ returns-in-Ok-clause-works g c =
     let closes = subst (λ s. ClosesAs g.S.Store s c.close_tables.result) c.into_keeper.ensures.same
     c.close_tables.ensures.closes in
     let moved = c.serve.ensures.moves in
-    let old = state g.S.Store c.args.conn in
     record {
       disk = disk_before g.S.Store c.args.conn c.close_tables.result c.new-desk.result.keeper c.serve.new.desk.keeper
           c.run_good.ensures opens closes moved.1.breaks;
-      did = λ clean.
-          let opened = opened_so g.S.Store c.args.conn c.close_tables.result c.new-desk.result.keeper c.serve.new.desk.keeper c.run_good.ensures opens closes moved.1.breaks clean in record {
-            serves = (
-              moved.0,
-              serves g.S.Store c.args.conn c.close_tables.result c.new-desk.result.keeper c.serve.new.desk.keeper
-                  c.run_good.ensures opens closes moved.0 None tt moved.1 clean,
-              moved.2,
-            );
-            opens = record {
-              judged = λ free. opened_still old free opened;
-              stood = λ free. stood_current old c.in-Ok.ensures.live free.is_open opened;
-              refused = tt;
-              lasting = λ free. left_consistent g.S.Store c.args.conn c.close_tables.result c.new-desk.result.keeper
-                  c.serve.new.desk.keeper c.run_good.ensures opens closes moved.1.breaks clean;
-              kept = tt;
-            };
-          };
+      did = λ clean. record {
+        serves = (
+          moved.0,
+          serves g.S.Store c.args.conn c.close_tables.result c.new-desk.result.keeper c.serve.new.desk.keeper
+              c.run_good.ensures opens closes (record { exchanges = moved.0; stream = None }) tt moved.1 clean,
+          moved.2,
+        );
+        opens = opened_tables g.S.Store c.args.conn c.close_tables.result c.new-desk.result.keeper c.serve.new.desk.keeper
+            c.run_good.ensures opens closes tt c.in-Ok.ensures.live moved.1.breaks clean;
+      };
     }
 
 pub returns-in-Err-clause-works : goal.returns-in-Err-clause-works

@@ -1,7 +1,8 @@
-use Rattle.std.proofs.Common.{None, [], sym, subst}
+use Rattle.std.proofs.Common.{sym, subst}
 use Rattle.sqlite.specs.Held.{state}
 use Rattle.sqlite.specs.State.{HasCleanDisk}
 use Rattle.portal_tables.proofs.InTurn.{clean_before}
+use Rattle.portal_file.specs.Tables.{idle}
 use Rattle.portal_file.proofs.Judged.{barred_still, may_upgrade, stood_first, upgraded_still, upgrades_late}
 use Rattle.portal_file.proofs.Made.{current_taken, same_world, upgrade_leaves}
 use Rattle.portal_file.proofs.Served.{IsTurnOf, denied_first, unserved}
@@ -17,8 +18,8 @@ returns-in-Ok-clause-works g c =
       disk = λ clean. clean_before old new _ is.makes.crash
           (subst (λ h. HasCleanDisk (state g.S.Store h)) closes.same clean);
       did = λ clean. record {
-        serves = subst (λ h. IsTurnOf old (state g.S.Store h) [] None) (sym closes.same)
-            (unserved old new c.settled.ensures.settled (g.met.S.Store.settled c.args.conn.store)
+        serves = subst (λ h. IsTurnOf old (state g.S.Store h) idle) (sym closes.same)
+            (unserved old new c.outside_transaction.ensures.committed (g.met.S.Store.settled c.args.conn.store)
             (upgrade_leaves old new is.makes.crash is.left
             (subst (λ h. HasCleanDisk (state g.S.Store h)) closes.same clean)));
         upgraded = same_world g.S.Store c.args.conn c.close_tables.result c.in-Ok.store closes is clean;
@@ -28,7 +29,7 @@ returns-in-Ok-clause-works g c =
         none = λ w shows. current_taken g.S.Store c.args.conn w is.free shows;
         judged = λ free. upgraded_still old free
             (is.judged (subst (λ h. HasCleanDisk (state g.S.Store h)) closes.same clean));
-        stood = λ free. stood_first old c.settled.ensures.live free.is_open
+        stood = λ free. stood_first old c.outside_transaction.ensures.live free.is_open
             (is.judged (subst (λ h. HasCleanDisk (state g.S.Store h)) closes.same clean));
         refused = tt;
         kept = tt;
@@ -43,7 +44,7 @@ returns-in-Err-clause-works g c =
     record {
       disk = clean_before old new _ is.back.crash;
       did = λ clean. record {
-        serves = unserved old new c.settled.ensures.settled (g.met.S.Store.settled c.args.conn.store)
+        serves = unserved old new c.outside_transaction.ensures.committed (g.met.S.Store.settled c.args.conn.store)
             (upgrade_leaves old new (upgrades_late old new c.in-Err.field-0.fault is.back.crash) is.left clean);
         upgraded = tt;
         lasting = tt;
@@ -51,7 +52,7 @@ returns-in-Err-clause-works g c =
         judged = λ free. barred_still old free c.in-Err.field-0.fault (is.judged clean);
         stood = tt;
         refused = denied_first g.S.Store c.args.conn c.in-Err.field-0.connection c.in-Err.field-0.fault is clean;
-        kept = λ free. may_upgrade old c.settled.ensures.settled (g.met.S.Store.settled c.args.conn.store) free new clean
+        kept = λ free. may_upgrade old c.outside_transaction.ensures.committed (g.met.S.Store.settled c.args.conn.store) free new clean
             c.in-Err.field-0.fault is.back.crash;
       };
     }

@@ -15,13 +15,17 @@ loop-project-init c =
 pub loop-project-preserved : goal.loop-project-preserved
 loop-project-preserved c =
     let j = c.loop-project.project-index in
-    let wanted : IsApplicantIndex c.args.self.now c.self.inside.places = subst (λ ss. IsApplicantIndex ss c.self.inside.places) c.self.view_is c.self.invariant in
-    let more = wanted_more c.args.self.now c.self.inside.places wanted c.args.projects.now j c.project-item.result c.as_bytes.result c.loop-project-test.true (sym c.project-item.is) c.as_bytes.ensures.bytes in
+    let wanted : IsApplicantIndex c.args.self.now c.self.inside.places =
+    subst (λ ss. IsApplicantIndex ss c.self.inside.places) c.self.view_is c.self.invariant in
+    let more = wanted_more c.args.self.now c.self.inside.places wanted c.args.projects.now j c.project-item.result c.as_bytes.result
+    c.loop-project-test.true (sym c.project-item.is) c.as_bytes.ensures.bytes in
     elim c.match-get.branch [
       | in-Some w ↦
-          let long : length w.deref_mut.result.now ≡ length c.args.self.now = ap length w.deref_mut.ensures.value ∙ c.loop-project.invariant.len in
+          let long : length w.deref_mut.result.now ≡ length c.args.self.now = ap length w.deref_mut.ensures.value
+          ∙ c.loop-project.invariant.len in
           let marked : c.match-get.marks.items ≡ w.mark.new.marks
-          = ap (λ v. v.items) w.marks-is ∙ with_items_is c.loop-project.marks w.mark.new.marks (w.mark.ensures.len ∙ w.deref_mut.ensures.len) in
+          = ap (λ v. v.items) w.marks-is ∙ with_items_is c.loop-project.marks w.mark.new.marks
+          (w.mark.ensures.len ∙ w.deref_mut.ensures.len) in
           record {
             len = ap length marked ∙ w.mark.ensures.len ∙ long;
             marks = λ i low.
@@ -34,6 +38,7 @@ loop-project-preserved c =
         len = ap (λ v. length v.items) w.marks-is ∙ c.loop-project.invariant.len;
         marks = λ i low.
             more i (get_or c.loop-project.marks.items i false) _ (c.loop-project.invariant.marks i low)
-            (ap (λ v. get_or v.items i false) w.marks-is ∙ sym (or-false (get_or c.loop-project.marks.items i false)) ∙ ap (λ o. get_or c.loop-project.marks.items i false || is_noted_in o i) w.in_default.ensures.value);
+            (ap (λ v. get_or v.items i false) w.marks-is ∙ sym (or-false (get_or c.loop-project.marks.items i false))
+            ∙ ap (λ o. get_or c.loop-project.marks.items i false || is_noted_in o i) w.in_default.ensures.value);
       }
     ]

@@ -12,9 +12,11 @@ loop-i-preserved c =
     let student : Student = c.student-item.result in
     let i = c.loop-i.i in
     let low : i < length c.args.self.now = subst (λ (ss : List Student). i < length ss) c.self.view_is c.loop-i-test.true in
-    let at : get_or c.args.self.now i student ≡ student = sym (c.student-item.is ∙ ap (λ (ss : List Student). get_or ss i student) c.self.view_is) in
+    let at : get_or c.args.self.now i student
+    ≡ student = sym (c.student-item.is ∙ ap (λ (ss : List Student). get_or ss i student) c.self.view_is) in
     let test : c.index.result.now ≡ wants student
-    = c.index.ensures ∙ get_or_default c.in_ok-marks.marks.items i _ false (omega (arith, c.in_ok-marks.ensures.len)) ∙ c.in_ok-marks.ensures.marks i low ∙ passes_here wants c.args.self.now i student low at in
+    = c.index.ensures ∙ get_or_default c.in_ok-marks.marks.items i _ false (omega (arith, c.in_ok-marks.ensures.len))
+    ∙ c.in_ok-marks.ensures.marks i low ∙ passes_here wants c.args.self.now i student low at in
     elim c.if-index.branch [
       | then-index+in_ok-push w ↦
           ap (λ v. map (λ k. k.now) v.items) w.keys-is

@@ -9,4 +9,5 @@ loop-lecturer-preserved c =
     ap (map {B = Key × List Key} (λ f. (f.0, f.1.items))) c.in_ok-push.ensures.items
     ∙ map_push {Y = Key × List Key} (λ f. (f.0, f.1.items)) c.loop-lecturer.fills.items _
     ∙ (λ j. c.loop-lecturer.invariant j ++ (c.in_ok-copy.ensures j, c.in_ok-keys.ensures j) ∷ [])
-    ∙ sym (ap (map fill) (grown c.args.lecturers.now i c.lecturer-item.result c.loop-lecturer-test.true (sym c.lecturer-item.is)) ∙ map_push fill (take i c.args.lecturers.now) c.lecturer-item.result)
+    ∙ sym (ap (map fill) (grown c.args.lecturers.now i c.lecturer-item.result c.loop-lecturer-test.true (sym c.lecturer-item.is))
+    ∙ map_push fill (take i c.args.lecturers.now) c.lecturer-item.result)

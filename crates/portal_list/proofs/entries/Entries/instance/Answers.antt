@@ -27,10 +27,12 @@ as_alone a e w second are has sound =
 pub returns-in_ok-left-in-Second-clause-instance : goal.returns-in_ok-left-in-Second-clause-instance
 returns-in_ok-left-in-Second-clause-instance c =
     IfOk-weaker c.instance_among-in-Second.result _ _ (λ i meant w has sound.
-    let v = as_alone c.args.self.now c.in_ok-left-in-Second.left w (sym (ap (λ (a : AllEntries). a.round) c.self.view_is) ∙ c.in-Second.is) c.in_ok-left-in-Second.ensures has sound in
+    let v = as_alone c.args.self.now c.in_ok-left-in-Second.left w
+    (sym (ap (λ (a : AllEntries). a.round) c.self.view_is) ∙ c.in-Second.is) c.in_ok-left-in-Second.ensures has sound in
     meant (alone (left_of w)) v.has v.sound ∙ v.same) c.instance_among-in-Second.ensures.instance
 
 pub returns-in_ok-left-in-Second-clause-refused : goal.returns-in_ok-left-in-Second-clause-refused
 returns-in_ok-left-in-Second-clause-refused c none w has sound ranked =
-    let v = as_alone c.args.self.now c.in_ok-left-in-Second.left w (sym (ap (λ (a : AllEntries). a.round) c.self.view_is) ∙ c.in-Second.is) c.in_ok-left-in-Second.ensures has sound in
+    let v = as_alone c.args.self.now c.in_ok-left-in-Second.left w
+    (sym (ap (λ (a : AllEntries). a.round) c.self.view_is) ∙ c.in-Second.is) c.in_ok-left-in-Second.ensures has sound in
     c.instance_among-in-Second.ensures.refused none (alone (left_of w)) v.has v.sound (v.ranked ranked)

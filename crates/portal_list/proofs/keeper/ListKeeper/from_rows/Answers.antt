@@ -13,4 +13,5 @@ returns-in_err-keeper-clause-err c refused w e sound first =
 
 pub returns-then-not-branch-clause-err : goal.returns-then-not-branch-clause-err
 returns-then-not-branch-clause-err c refused w e sound first =
-    sound_tells c.args.rows c.in_ok-keeper.keeper c.in_ok-keeper.ensures.fitted (iff_false c.in_ok-is_sound.ensures c.if-not-branch.true) w e sound
+    sound_tells c.args.rows c.in_ok-keeper.keeper c.in_ok-keeper.ensures.fitted
+    (iff_false c.in_ok-is_sound.ensures c.if-not-branch.true) w e sound

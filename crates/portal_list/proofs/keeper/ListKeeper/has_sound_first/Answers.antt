@@ -9,4 +9,7 @@ pub returns-in_ok-first-in-Second : goal.returns-in_ok-first-in-Second
 returns-in_ok-first-in-Second c =
     let second : is_second c.args.self.now.round ≡ true = search rules in
     IfOk-weaker c.is_sound.result _ _
-    (λ yes same. (λ e _. subst Sound c.in_ok-first-in-Second.ensures (same.0 e), λ h. same.1 (subst Sound (sym c.in_ok-first-in-Second.ensures) (h second)))) c.is_sound.ensures
+    (λ yes same. (
+      λ e _. subst Sound c.in_ok-first-in-Second.ensures (same.0 e),
+      λ h. same.1 (subst Sound (sym c.in_ok-first-in-Second.ensures) (h second)),
+    )) c.is_sound.ensures

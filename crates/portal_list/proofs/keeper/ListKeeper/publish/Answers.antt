@@ -3,7 +3,8 @@ use Rattle.portal_list.proofs.Base.{rules, catalogue_placed}
 use Rattle.portal_list.proofs.keeper.ListKeeper.publish.Goals as goal
 
 -- A result leaves the catalogue of a round as it was.
-shown_placed : (e : AllEntries) (pairs : List (Key × Key)) → catalogue_in (record e { students = map (with_place pairs) e.students }) ≡ catalogue_in e
+shown_placed : (e : AllEntries) (pairs : List (Key × Key))
+    → catalogue_in (record e { students = map (with_place pairs) e.students }) ≡ catalogue_in e
 shown_placed e pairs = catalogue_placed (world_with Setup [] e) pairs
 
 pub invariant_of-self-2 : goal.invariant_of-self-2

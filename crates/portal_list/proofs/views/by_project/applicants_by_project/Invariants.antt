@@ -2,4 +2,5 @@ use Rattle.portal_list.proofs.Base.{◌≡◌, take, map, applicants_shown}
 use Rattle.portal_list.proofs.views.by_project.applicants_by_project.Given as goal
 
 abbrev pub invariant-loop-project : goal.invariant-loop-project
-invariant-loop-project l = map (λ p. (p.0, p.1.items)) l.found.items ≡ applicants_shown l.closed l.students l.lecturer (take l.project-index l.projects)
+invariant-loop-project l = map (λ p. (p.0, p.1.items)) l.found.items
+    ≡ applicants_shown l.closed l.students l.lecturer (take l.project-index l.projects)

@@ -38,7 +38,8 @@ returns-in-Err-clause-refuses g c =
     let s = state g.S.Store conn in
     not_upgraded g.S.Store _ c.from.result conn conn c.upgrade_fault_of.ensures (untouched g.S.Store _ conn c.requires.idle)
     (λ clean. explains_said _ _ _ _ _ c.from.ensures.0) (λ first clean. blames_none _ _ _ _ c.from.ensures.0)
-    (λ damaged. absurd (no_damage _ c.from.ensures.0 damaged)) (λ first. survives_weaker s s _ _ (λ clean db no. absurd no) (survives_same s))
+    (λ damaged. absurd (no_damage _ c.from.ensures.0 damaged))
+    (λ first. survives_weaker s s _ _ (λ clean db no. absurd no) (survives_same s))
 
 pub upgrade_with_entries-requires : goal.upgrade_with_entries-requires
 upgrade_with_entries-requires g c = record {

@@ -8,4 +8,6 @@ pub loop-choice-preserved : goal.loop-choice-preserved
 loop-choice-preserved c = search (rules, get_or_default, rank_read, row_read, none_iff, least_step)
 
 pub returns : goal.returns
-returns c = least_all c.args.choices.now (λ q. row_at c.args.lines.now (lecturer_of_row c.args.projects.now q)) (λ _ q. rank_at c.args.lecturers.now (lecturer_of_row c.args.projects.now q) c.args.student ≡ None) c.loop-choice.choice-index c.loop-choice.best (omega arith) c.loop-choice.invariant
+returns c = least_all c.args.choices.now (λ q. row_at c.args.lines.now (lecturer_of_row c.args.projects.now q))
+    (λ _ q. rank_at c.args.lecturers.now (lecturer_of_row c.args.projects.now q) c.args.student ≡ None) c.loop-choice.choice-index
+    c.loop-choice.best (omega arith) c.loop-choice.invariant

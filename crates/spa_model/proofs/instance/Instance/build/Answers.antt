@@ -4,7 +4,12 @@ use Rattle.spa_model.proofs.instance.Instance.build.Goals as goal
 
 pub check_lists-requires : goal.check_lists-requires
 check_lists-requires c =
-    let same : SameLines c.args.rows c.sort_rows.new.rows = record { lecturers = c.sort_rows.ensures.lecturers; projects = c.sort_rows.ensures.projects; students = c.sort_rows.ensures.students } in
+    let same : SameLines c.args.rows c.sort_rows.new.rows =
+    record {
+      lecturers = c.sort_rows.ensures.lecturers;
+      projects = c.sort_rows.ensures.projects;
+      students = c.sort_rows.ensures.students;
+    } in
     none_before_carry c.args.rows c.sort_rows.new.rows same NoSuchLecturer c.in_ok-check_lines.ensures.ok
 
 pub returns-in_err-lists-clause-err : goal.returns-in_err-lists-clause-err

@@ -9,4 +9,5 @@ known_project i m lawful fits s (Some p) e = lawful.known s p (fits.acceptable s
 
 -- what is acceptable is there
 pub returns-clause-in_range : goal.returns-clause-in_range
-returns-clause-in_range c = known_project c.args.self.now c.args.matching.now c.students.ensures.lawful c.requires.fits c.args.student c.project.result c.project.ensures
+returns-clause-in_range c = known_project c.args.self.now c.args.matching.now c.students.ensures.lawful c.requires.fits c.args.student
+    c.project.result c.project.ensures

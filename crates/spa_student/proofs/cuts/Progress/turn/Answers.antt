@@ -25,9 +25,11 @@ put-requires-clause-next c =
 grown : (before moved after : Progress) (s k p : ℕ) → moved.cursors.items ≡ set before.cursors.items s k
     → s < length before.cursors.items → get_or before.cursors.items s 0 ≤ k
     → length moved.projects.items ≡ length before.cursors.items
-    → (o : Option ℕ) → MatchOption o (Puts s p moved after) (λ w. Exchanges s p w moved after) → IfSome o (λ w. sum before.cursors.items < sum after.cursors.items)
+    → (o : Option ℕ) → MatchOption o (Puts s p moved after) (λ w. Exchanges s p w moved after)
+    → IfSome o (λ w. sum before.cursors.items < sum after.cursors.items)
 grown before moved after s k p now s_in from rows None done = tt
-grown before moved after s k p now s_in from rows (Some w) done = rw (done.cursors, now) (sum_moved before.cursors.items s k w s_in from (omega (arith, done.in_range)))
+grown before moved after s k p now s_in from rows (Some w) done =
+    rw (done.cursors, now) (sum_moved before.cursors.items s k w s_in from (omega (arith, done.in_range)))
 
 pub returns-then-k-list-clause-moves : goal.returns-then-k-list-clause-moves
 returns-then-k-list-clause-moves c =

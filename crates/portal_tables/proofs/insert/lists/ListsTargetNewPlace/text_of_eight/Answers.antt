@@ -1,15 +1,7 @@
-use Rattle.portal_tables.proofs.Base.{refl, Choices, Rankings, SecondChoices, SecondRankings}
+use Rattle.portal_tables.proofs.Base.{refl}
 use Rattle.portal_tables.proofs.Statements.{places_added, add_eight_is, by_eight}
 use Rattle.portal_tables.proofs.insert.lists.ListsTargetNewPlace.text_of_eight.Goals as goal
 
-pub returns-in-Choices : goal.returns-in-Choices
-returns-in-Choices g c = rw c.in-Choices.is (places_added Choices g.S.Store 8 _ _ (add_eight_is Choices) (by_eight (λ a b c d e f g h more. refl)))
-
-pub returns-in-Rankings : goal.returns-in-Rankings
-returns-in-Rankings g c = rw c.in-Rankings.is (places_added Rankings g.S.Store 8 _ _ (add_eight_is Rankings) (by_eight (λ a b c d e f g h more. refl)))
-
-pub returns-in-SecondChoices : goal.returns-in-SecondChoices
-returns-in-SecondChoices g c = rw c.in-SecondChoices.is (places_added SecondChoices g.S.Store 8 _ _ (add_eight_is SecondChoices) (by_eight (λ a b c d e f g h more. refl)))
-
-pub returns-in-SecondRankings : goal.returns-in-SecondRankings
-returns-in-SecondRankings g c = rw c.in-SecondRankings.is (places_added SecondRankings g.S.Store 8 _ _ (add_eight_is SecondRankings) (by_eight (λ a b c d e f g h more. refl)))
+pub returns : goal.returns
+returns g c = let lists = c.args.self.now in
+    rw c.add_eight_text.ensures (places_added lists g.S.Store 8 _ _ (add_eight_is lists) (by_eight (λ a b c d e f g h more. refl)))

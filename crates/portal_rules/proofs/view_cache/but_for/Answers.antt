@@ -1,6 +1,0 @@
-use Rattle.portal_rules.proofs.Base.{rules}
-use Rattle.std.proofs.lemmas.Fn.{filter_same}
-use Rattle.portal_rules.proofs.view_cache.but_for.Goals as goal
-
-pub returns : goal.returns
-returns c = filter_same _ _ _ (λ x b f' k. search rules) _ _ c.retain.ensures.filtered

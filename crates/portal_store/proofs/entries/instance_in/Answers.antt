@@ -1,7 +1,0 @@
-use Rattle.portal_store.proofs.Base.{IfOk-weaker, reads_more, state, world_of}
-use Rattle.portal_store.proofs.entries.instance_in.Goals as goal
-
-pub returns : goal.returns
-returns g c =
-    let w = world_of (state g.S.Store c.args.conn.now).now.trees in
-    reads_more c.in_ok-entries.ensures (λ own sound told. IfOk-weaker c.instance_of.result _ _ (λ i meant fine. meant w (told fine) fine) c.instance_of.ensures)

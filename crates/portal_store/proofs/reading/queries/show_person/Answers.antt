@@ -1,0 +1,67 @@
+use Rattle.portal_store.proofs.Base.{◌∙◌, if◌then◌else◌, First, IfOk-weaker, Lecturer, OfficeCaller, Option, Round, ap}
+use Rattle.portal_store.proofs.Base.{caller_among, catalogue, lecturer_from, lecturer_with, option_map, reads_as}
+use Rattle.portal_store.proofs.Base.{reads_handed, reads_more, reads_open, reads_then, reads_then_of, sight_of, state}
+use Rattle.portal_store.proofs.Base.{student_with, sym, world_in, LecturerSight, IsCatalogue}
+use Rattle.portal_store.proofs.Applying.{lecturer_told}
+use Rattle.portal_store.proofs.Holding.{has_tables}
+use Rattle.portal_store.proofs.Queried.{lecturer_found}
+use Rattle.portal_store.proofs.CatalogueLeft.{catalogue_told}
+use Rattle.portal_store.proofs.reading.queries.show_person.Goals as goal
+
+pub returns-in_err-row : goal.returns-in_err-row
+returns-in_err-row g c =
+    reads_handed c.from_residual.ensures.1 (lecturer_found c.args.code.now (λ o shown. shown) c.in_err-row.ensures)
+    (λ own right told. (right.1, tt))
+
+pub returns-in_err-catalogue : goal.returns-in_err-catalogue
+returns-in_err-catalogue g c =
+    let f = c.in_err-catalogue in
+    reads_handed c.from_residual-in_err-catalogue.ensures.1
+    (reads_then (lecturer_found c.args.code.now (λ o shown. shown) c.in_ok-row.ensures) f.ensures) (λ own right told. (told.1.0, tt))
+
+pub returns-in_err-lecturer_view : goal.returns-in_err-lecturer_view
+returns-in_err-lecturer_view g c =
+    let f = c.in_err-lecturer_view in
+    reads_handed c.from_residual-in_err-lecturer_view.ensures.1
+    (reads_then (lecturer_found c.args.code.now (λ o shown. shown) c.in_ok-row.ensures)
+    (reads_then_of (λ own on right told. has_tables _ right.0) c.in_ok-catalogue.ensures f.ensures))
+    (λ own right told. (told.1.0.0, tt))
+
+pub returns-in_default : goal.returns-in_default
+returns-in_default g c =
+    let r = c.show_student.result in
+    let w = world_in c.args.round (state g.S.Store c.args.conn.now).now.trees in
+    let code = c.args.code.now in
+    reads_as (reads_then (lecturer_found c.args.code.now (λ o shown. shown) c.in_ok-row.ensures) (reads_open c.show_student.ensures))
+    (λ no. no)
+    (λ own right told. (
+      told.1.0,
+      IfOk-weaker r _ _ (λ v is phase other good. is phase
+          ∙ sym (ap (λ b. sight_of w (if b then OfficeCaller else caller_among (lecturer_with w code) (student_with w code))) other
+          ∙ ap (λ (o : Option Lecturer). sight_of w (caller_among o (student_with w code)))
+          (sym (ap (option_map (lecturer_from c.args.round (state g.S.Store c.args.conn.now).now.trees)) (sym c.in_default.is)
+          ∙ told.0)))) told.1.1,
+    ))
+
+pub returns : goal.returns
+returns g c =
+    let a = state g.S.Store c.args.conn.now in
+    let round = c.args.round in
+    let w = world_in round a.now.trees in
+    let code = c.args.code.now in
+    let offers = c.in_ok-catalogue.catalogue.value.items in
+    let row = c.in-Some.row in
+    reads_more
+    (reads_then (lecturer_found c.args.code.now (λ o shown. shown) c.in_ok-row.ensures)
+    (reads_then_of (λ own on right told. has_tables _ right.0) c.in_ok-catalogue.ensures c.in_ok-lecturer_view.ensures))
+    (λ own right told.
+    let listed = told.1.0.1 in
+    let offered : IsCatalogue round a.now.trees offers = λ first. listed ∙ ap (λ (r : Round). catalogue (world_in r a.now.trees)) first
+    ∙ sym (catalogue_told First a.now.trees) in (
+      told.1.0.0,
+      λ phase other good.
+          ap LecturerSight (told.1.1 offered ∙ lecturer_told round a.now.trees right.0.second good row c.args.phase offers phase listed)
+          ∙ sym (ap (λ b. sight_of w (if b then OfficeCaller else caller_among (lecturer_with w code) (student_with w code))) other
+          ∙ ap (λ (o : Option Lecturer). sight_of w (caller_among o (student_with w code)))
+          (sym (ap (option_map (lecturer_from round a.now.trees)) (sym c.in-Some.is) ∙ told.0))),
+    ))
