@@ -34,25 +34,33 @@ const called = (text) => plain(text).replace(/[^\p{L}\d]/gu, '');
 const list = (text) => text.split(' ');
 
 const STUDENT_IDS = list('stucode studentid studentno studentnumber matriculationno matriculationnumber registrationnumber matrikel '
-  + 'matrikelnr matrikelnummer matrnr matnr');
-const OWNERS = list(
-  'lecturer lecturername supervisor supervisorname advisor betreuer betreuerin betreuung dozent dozentin lehrperson lehrende',
-);
-const SURNAMES = list('surname lastname familyname nachname familienname stusurn familiennamedesstudierenden nachnamedesstudierenden');
+  + 'matrikelnr matrikelnummer matrnr matrikelno matnr mtknr mtknummer studierendennummer studierendenid');
+const OWNERS = list('lecturer lecturername supervisor supervisorname advisor betreuer betreuerin betreuende betreuung erstbetreuer '
+  + 'erstbetreuerin erstbetreuung hauptbetreuer hauptbetreuerin dozent dozentin lehrperson lehrende prufer pruferin erstprufer '
+  + 'erstpruferin erstgutachter erstgutachterin');
+const SURNAMES = list('surname lastname familyname nachname familienname zuname stusurn familiennamedesstudierenden '
+  + 'nachnamedesstudierenden familynameofstudent');
 
 /** @type {Record<Column, string[]>} The likelier name first. */
 const NAMES = {
-  id: list('key kennung kurzel kuerzel number nummer no nr'),
-  name: list('fullname studentname vollername vollstandigername'),
-  first: list('firstname forename givenname givennames vorname vornamen rufname stufnm1 vornamedesstudierenden'),
+  id: list('key kennung kurzel kuerzel idnummer idnumber'),
+  name: list('fullname studentname vollername vollstandigername namevorname nachnamevorname familiennamevorname vorundnachname '
+    + 'vornamenachname vornamename'),
+  first: list('firstname forename givenname givennames vorname vornamen rufname stufnm1 vornamedesstudierenden firstnameofstudent'),
   code: list('signincode zugangscode'),
-  capacity: list('max maximum places limit seats maxstudents kapazitat kapazitaet platze plaetze platzzahl anzahlplatze maxstudierende'),
+  capacity: list('max maximum places limit seats maxstudents kapazitat kapazitaet platze plaetze platzzahl anzahlplatze anzahlderplatze '
+    + 'maxplatze maxstudierende maxanzahl maxanzahlstudierende anzahlstudierende maxteilnehmer maxteilnehmende maxteilnehmerzahl '
+    + 'teilnehmerzahl maxbetreuungen anzahlbetreuungen'),
   lecturer: [...list('lecturerid supervisorid staffid lehrpersonid dozentenid betreuerid'), ...OWNERS],
-  title: list('projecttitle projekttitel titel projectname projektname thema topic project projekt name'),
-  email: list('emailaddress emailadresse mail mailaddress mailadresse'),
+  title: list('projecttitle projekttitel titelderarbeit themaderarbeit arbeitstitel titel projectname projektname thema topic project '
+    + 'projekt name'),
+  email: list('emailaddress emailadresse mail mailaddress mailadresse uniemail emaildienstlich dienstlicheemail'),
   description: list('descriptions projectdescription beschreibung projektbeschreibung kurzbeschreibung abstract summary inhalt details'),
   link: list('url website webpage webseite internetseite homepage weblink'),
 };
+
+// What may only count the rows: a person says whether these are students' IDs, which lecturers see, and which stay.
+const COUNTS = list('number nummer no nr');
 
 /** @type {Record<Roll, Partial<Record<Column, string[]>>>} What the files of one roll alone call a column. */
 const OWN = {
@@ -74,8 +82,9 @@ const OWN = {
 export function columnsOf(roll, header) {
   const names = header.map(called);
   const first = (/** @type {string[]} */ wanted) => names.indexOf(wanted.find((name) => names.includes(name)) ?? '-');
+  const counts = (/** @type {Column} */ column) => (column === 'id' && roll !== 'students' ? COUNTS : []);
   const columns = Object.fromEntries(columnNames(roll).map((column) =>
-    [column, first([column, ...(OWN[roll][column] ?? []), ...NAMES[column]])]));
+    [column, first([column, ...(OWN[roll][column] ?? []), ...NAMES[column], ...counts(column)])]));
   const [family, given] = [first(SURNAMES), first(NAMES.first)];
   if (!hasCodes(roll) || (family < 0 && given < 0)) return columns;
   // beside a family name what is called "name" alone is the first name

@@ -1,6 +1,7 @@
 // Tables in text files, as spreadsheets write and read them. No element of the page is touched here.
 
-const SEPARATORS = [',', ';', '\t'];
+// Of two that are as likely, the first one: a comma may stand in each name, or in each grade.
+const SEPARATORS = ['\t', ';', ','];
 
 // The first bytes of .xlsx and .ods, and of .xls.
 const WORKBOOKS = [[0x50, 0x4b, 0x03, 0x04], [0xd0, 0xcf, 0x11, 0xe0]];
@@ -86,6 +87,14 @@ function encodingOf(bytes) {
   }
 }
 
+// Umlauts of another encoding as they come out in this one: "MÃ¼ller", "M?ller", "J”rg" of DOS, "JŠger" and "Gro§" of the Mac.
+const MISREAD = /[\x80-\x9f\ufffd]|[ÂÃÄÅ][\xa0-\xbf\u0152-\u2122]|\p{L}(§|[„”‚™†‡¤€?]\p{L}|[ŠŽ]\p{Ll})|Ÿ\p{Ll}/u;
+/**
+ * A text has letters that look as if they had been read by another encoding than they were written in.
+ * @param {string} text
+ */
+export const isMisread = (text) => MISREAD.test(text);
+
 /**
  * A first line `sep=;` names the separator and is no row. Else it is the one that the most rows of one width have between their fields: a
  * title above them, where nothing else separates, does not count.
@@ -94,8 +103,10 @@ function encodingOf(bytes) {
 function separated(text) {
   const [line, separator] = /^sep=(.)(\r\n|\r|\n)/i.exec(text) ?? [];
   if (separator !== undefined) return { separator, rest: text.slice(line.length) };
-  const weights = SEPARATORS.map((one) => weightOf(text, one));
-  return { separator: SEPARATORS[weights.indexOf(Math.max(...weights))], rest: text };
+  // a comma within a number separates nothing, unless nothing else does
+  const weights = SEPARATORS.map((one) => weightOf(one === ',' ? text.replace(/(?<=\d),(?=\d)/g, '.') : text, one));
+  const most = Math.max(...weights);
+  return { separator: most === 0 ? ',' : SEPARATORS[weights.indexOf(most)], rest: text };
 }
 
 /**

@@ -131,7 +131,7 @@ class OfficePage {
   }
 
   /**
-   * Why a student has no project: the portal tells who saved no list in the round that it is in.
+   * Why a student has no project: the portal tells who has no list in the round that it is in.
    * @param {string} student
    */
   #noneOf(student) {

@@ -13,6 +13,8 @@ const NUMBER = /^[#(]?\s*([+-]?\d+(?:[.,]\d+)?)\s*[.):]?$/;
 // The heads stand under so many titles at most.
 const MOST_TITLES = 20;
 const BEFORE = /^[#(]?(\d+)[.):]*(?:[\s,;]+|$)/;
+// It is neither a rank nor an ID.
+const GRADE = /^\d{1,3},\d{1,2}$/;
 
 /**
  * The lines of a text or a file, each with the applicants who are meant and with its numbers.
@@ -102,7 +104,7 @@ function freeLines(rows, finders) {
 function frontOf(fields, finders) {
   const line = fields.join('\t');
   const [before, digits] = BEFORE.exec(line) ?? ['', ''];
-  if (before === '') return null;
+  if (before === '' || GRADE.test(fields[0])) return null;
   const keys = keysOf(line.slice(before.length).split('\t'), '', finders);
   const own = finders.keyOf(digits) ?? finders.bareOf(digits);
   return keys.length === 0 || (own && keys.includes(own)) ? null : { number: Number(digits), keys };
@@ -116,7 +118,7 @@ function frontOf(fields, finders) {
  * @returns {string[]}
  */
 function keysOf(fields, rank, { keyOf, bareOf, personOf }) {
-  const tokens = fields.flatMap((field) => field.split(/[\s,;]+/)).filter((token) => token !== '');
+  const tokens = fields.filter((field) => !GRADE.test(field)).flatMap((field) => field.split(/[\s,;]+/)).filter((token) => token !== '');
   const [first = '', ...rest] = tokens;
   const isRanked = bare(first) === rank && rest.length > 0;
   const keys = found(isRanked ? rest : tokens, keyOf);
@@ -124,7 +126,8 @@ function keysOf(fields, rank, { keyOf, bareOf, personOf }) {
   const line = fields.join(', ').replace(isRanked ? first : '', '');
   const pieces = line.split(/[,;]/).filter((piece) => /\p{L}/u.test(piece));
   const people = found(pieces, personOf);
-  if (pieces.length > 0 && people.length === pieces.length) return people;
+  // a name in two cells is one person
+  if (pieces.length > 0 && people.length === pieces.length) return new Set(people).size === 1 ? people.slice(0, 1) : people;
   const person = personOf(line);
   if (person) return [person];
   const short = found(isRanked ? rest : tokens, bareOf);

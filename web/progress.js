@@ -68,6 +68,7 @@ export function missingParts(status, names, messages) {
   const isUnnamed = who.keys.some((key) => names.nameOf(who.roll, key) === undefined);
   return [part(`${who.title} (${who.keys.length.toLocaleString(words.language)})`, [
     ...(status.phase === 'published' ? [make('p', { text: noneText(status) })] : []),
+    ...(status.phase === 'choosing' ? [make('p', { class: 'quiet', text: words.withdrawn })] : []),
     who.keys.length <= UNFOLDED ? list : make('details', {}, [make('summary', { text: words.allNames(who.keys.length) }), list]),
     make('div', { class: 'buttons' }, copyButtons(status, names, messages)),
     ...(isUnnamed ? [make('p', { class: 'quiet', text: words.keysAlone })] : []),
@@ -75,7 +76,7 @@ export function missingParts(status, names, messages) {
 }
 
 /**
- * Who saved no list got no project for that; the others had one, and no place.
+ * Who has no list got no project for that; the others had one, and no place.
  * @param {Status} status
  */
 function noneText({ unassigned, without_list: without, round }) {

@@ -2,11 +2,11 @@
 // here.
 
 import { hasCodes } from './columns.js';
-import { isLikeFormula } from './csv.js';
+import { isLikeFormula, isMisread } from './csv.js';
 import { nameKey } from './meant.js';
 
 /** What may do lasting harm: nothing is sent before a person has said that the rows are right. The rest is told alone. */
-export const STOPPING = new Set(['total', 'hidden', 'idLength', 'noName', 'sameEmail', 'sameName', 'sameTitle']);
+export const STOPPING = new Set(['total', 'hidden', 'idLength', 'misread', 'noName', 'sameEmail', 'sameName', 'sameTitle']);
 
 /**
  * What looks wrong in the rows that would be sent.
@@ -21,6 +21,7 @@ export function doubtsOf(roll, entries, there) {
   /** @type {Record<string, number[]>} */
   const all = {
     differs: unlikeIn(roll, entries, there),
+    misread: rows(({ name = '', title = '' }) => name.includes('?') || isMisread(`${name} ${title}`)),
     noName: rows(({ name = 'a' }) => name !== '' && !/\p{L}/u.test(name)),
     sameEmail: rows(sameUnder(roll, entries.filter(isNew), there, ({ email = '' }) => email.toLowerCase())),
     sameName: rows(hasCodes(roll) ? sameUnder(roll, entries.filter(isNew), there, ({ name = '' }) => nameKey(name)) : () => false),

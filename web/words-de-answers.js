@@ -72,10 +72,10 @@ export const words = texts({
     },
     why: {
       title: 'Warum hat diese Person nichts bekommen?',
-      texts: ['Die Ergebnisse des Studienbüros unterscheiden zwei Fälle: „keine Liste“: Es wurde keine gespeichert; „Liste, aber kein '
-        + 'Platz“: Bei jedem Projekt darauf gingen alle seine Plätze oder alle seiner Lehrperson an Studierende, die weiter vorn stehen; '
-        + 'bei denselben Rangfolgen und denselben Listen der anderen hätte keine andere Liste eines davon gebracht. Welche Projekte das '
-        + 'waren, zeigt nur die eigene Seite dieser Person.'],
+      texts: ['Die Ergebnisse des Studienbüros unterscheiden zwei Fälle: „keine Liste“: Es wurde keine gespeichert oder eine leere; '
+        + '„Liste, aber kein Platz“: Bei jedem Projekt darauf gingen alle seine Plätze oder alle seiner Lehrperson an Studierende, die '
+        + 'weiter vorn stehen; bei denselben Rangfolgen und denselben Listen der anderen hätte keine andere Liste eines davon gebracht. '
+        + 'Welche Projekte das waren, zeigt nur die eigene Seite dieser Person.'],
     },
     fair: {
       title: 'Ist es gerecht?',

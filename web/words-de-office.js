@@ -82,9 +82,10 @@ export const words = texts({
     ranking: 'Noch ohne Rangfolge',
     project: 'Ohne Projekt',
   },
+  withdrawn: 'Auch wer eine leere Liste gespeichert hat, um zu verzichten, steht hier.',
   nobody: 'Niemand',
   noneAre: (none, list, round) =>
-    `${number(none)} ohne gespeicherte Liste${round === 2 ? ' in dieser Runde' : ''}. ${number(list)} mit Liste, aber ohne Platz.`,
+    `Ohne Liste${round === 2 ? ' in dieser Runde' : ''}: ${number(none)}. Mit Liste, aber ohne Platz: ${number(list)}.`,
   allNames: (count) => `Alle ${number(count)} Namen zeigen`,
   keysAlone: 'Das Portal zeigt hier nur IDs. Um Namen zu sehen, öffnen Sie die Datei der Lehrenden oder Studierenden noch einmal und '
     + 'drücken „Nur Namen lesen“. Nichts wird gesendet.',
@@ -171,7 +172,7 @@ export const words = texts({
     places: (count, all, isSure) =>
       `${isSure ? '' : 'Höchstens '}${places(count)} für ${students(all)}: Mindestens ${number(all - count)} bekommen kein Projekt.`,
     offers: (count, names) => `${many(count, 'Lehrperson hat', 'Lehrende haben')} kein Projekt${names === '' ? '' : `: ${names}`}.`,
-    lists: 'Niemand hat eine Liste gespeichert, diese Runde gäbe also niemandem ein Projekt.',
+    lists: 'Niemand hat eine Liste, diese Runde gäbe also niemandem ein Projekt.',
     room: (count) => `0 Plätze für ${students(count)}: Es ist nichts mehr zu wählen übrig.`,
   },
   withoutList: (count) => (count === 0

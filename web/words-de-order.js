@@ -25,7 +25,7 @@ export const words = texts({
   orderLeft: (count, names) => `Nicht darin und deshalb ohne Position: ${number(count)}. ${names}.`,
   orderUnranked: (names) => `Ohne Zahl und deshalb am Ende: ${names}.`,
   orderTwice: (names) => `Mehrmals darin; das erste Mal zählt: ${names}.`,
-  orderShared: (count, rank) => `${number(count)} haben die Zahl ${rank}. Wer kommt zuerst?`,
+  orderShared: (count, rank) => `${number(count)} haben die Zahl ${`${rank}`.replace('.', ',')}. Wer kommt zuerst?`,
   orderSharedMore: (count, isMore) => `${isMore
     ? `${number(count)} weitere Zahlen`
     : `${number(count)} ${count === 1 ? 'Zahl' : 'Zahlen'}`} ${count === 1

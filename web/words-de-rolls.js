@@ -163,6 +163,8 @@ export const words = texts({
     hidden: (rows) => `In der Tabellenkalkulation ausgeblendet oder weggefiltert, würde aber gesendet: ${rows}.`,
     differs: (rows) =>
       `Scheint von dem abzuweichen, was das Portal unter derselben ID hat. Wenn ja, lehnt das Portal die Datei ab: ${rows}.`,
+    misread: (rows) => 'Buchstaben sehen falsch gelesen aus. Exportieren Sie die Datei als „CSV UTF-8“ und öffnen Sie diese, oder '
+      + `berichtigen Sie sie unten: ${rows}.`,
     noName: (rows) => `Der Name hat keine Buchstaben: ${rows}.`,
     sameEmail: (rows) =>
       `Dieselbe E-Mail-Adresse steht hier oder im Portal unter einer anderen ID. Ist es zweimal dieselbe Person? ${rows}.`,
@@ -179,6 +181,7 @@ export const words = texts({
     total: 'Sieht nach Summe oder Anmerkung aus.',
     hidden: 'In der Tabelle ausgeblendet.',
     differs: 'Weicht vom Portal ab.',
+    misread: 'Buchstaben sehen falsch gelesen aus.',
     noName: 'Der Name hat keine Buchstaben.',
     sameEmail: 'Dieselbe Adresse unter anderer ID.',
     sameName: 'Derselbe Name unter anderer ID.',

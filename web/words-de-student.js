@@ -11,7 +11,7 @@ export const words = texts({
   shown: (shown, all) => (shown === all ? projects(all) : `${number(shown)} von ${many(all, 'Projekt', 'Projekten')}`),
   noProjects: 'Keine Projekte zu sehen.',
   noProjectsSecond: 'In dieser Runde hat kein Projekt mehr einen Platz. Fragen Sie das Studienbüro, wie es weitergeht.',
-  showProjects: (count) => `Alle ${projects(count)} zeigen`,
+  showProjects: (count) => (count === 1 ? 'Das Projekt zeigen' : `Alle ${projects(count)} zeigen`),
   placesLeftColumn: 'Freie Plätze',
   roomOf: (count) => places(count),
   allLecturers: 'Alle Lehrenden',
@@ -37,12 +37,12 @@ export const words = texts({
     count: (count) =>
       (count < longestList ? `${projects(count)} (bis zu ${longestList})` : `${longestList} Projekte. Ihre Liste ist voll.`),
     missing: () => '',
-    none: 'Nichts gespeichert',
+    none: 'Keine Projekte gespeichert',
     which: 'Welche Liste möchten Sie behalten?',
   },
   listEmpty: 'Ihre Liste ist leer. Drücken Sie „Wählen“ neben jedem Projekt, das Sie möchten.',
   listFull: 'Liste voll: erst ein Projekt entfernen.',
-  listClosedEmpty: 'Sie haben keine Liste gespeichert.',
+  listClosedEmpty: 'Sie haben keine Liste gespeichert oder eine leere.',
   byLecturer: (lecturer, key) => (lecturer === '' ? key : `${apart(lecturer)} · ${key}`),
   decided: 'Wie entschieden wird',
   decidedParts: [
@@ -122,8 +122,9 @@ export const words = texts({
   noneMayBe: 'Das Studienbüro kann für Studierende ohne Projekt eine zweite Runde öffnen. Dann wählen Sie hier noch einmal, unter den '
     + 'Plätzen, die übrig sind.',
   noneNextSecond: 'Eine dritte Runde gibt es nicht. Fragen Sie das Studienbüro, wie es weitergeht.',
-  noProjectNoList: 'Sie haben kein Projekt bekommen, weil Sie keine Liste gespeichert haben.',
-  noProjectNoListSecond: 'Sie haben in der zweiten Runde kein Projekt bekommen, weil Sie in ihr keine Liste gespeichert haben.',
+  noProjectNoList: 'Sie haben kein Projekt bekommen, weil Sie keine Liste gespeichert haben oder eine leere.',
+  noProjectNoListSecond: 'Sie haben in der zweiten Runde kein Projekt bekommen, weil Sie in ihr keine Liste gespeichert haben oder eine '
+    + 'leere.',
   whatNext: 'Wie es weitergeht',
   ownNext: 'Auch Ihre Lehrperson sieht, dass Sie dieses Projekt haben. Sprechen Sie miteinander darüber, wie Sie beginnen. Ist etwas '
     + 'unklar, fragen Sie das Studienbüro.',

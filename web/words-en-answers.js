@@ -66,9 +66,10 @@ export const words = texts({
     },
     why: {
       title: 'Why did this student get nothing?',
-      texts: ['The office’s results tell two cases apart: “no list”: the student saved none; “list, but no place”: for each project on it, '
-        + 'all its places, or all its lecturer’s, went to students ranked higher; with the same rankings and the others’ lists as they '
-        + 'were, no other list would have got one of them. Which projects these were, only the student’s own page shows.'],
+      texts: ['The office’s results tell two cases apart: “no list”: the student saved none, or an empty one; “list, but no place”: for '
+        + 'each project on it, all its places, or all its lecturer’s, went to students ranked higher; with the same rankings and the '
+        + 'others’ lists as they were, no other list would have got one of them. Which projects these were, only the student’s own page '
+        + 'shows.'],
     },
     fair: {
       title: 'Is it fair?',

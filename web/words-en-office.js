@@ -78,9 +78,10 @@ export const words = texts({
     ranking: 'Still to rank',
     project: 'Without a project',
   },
+  withdrawn: 'Whoever has saved an empty list, to withdraw, stands here too.',
   nobody: 'Nobody',
   noneAre: (none, list, round) =>
-    `${number(none)} saved no list${round === 2 ? ' in this round' : ''}. ${number(list)} saved one, and got no place.`,
+    `Without a list${round === 2 ? ' in this round' : ''}: ${number(none)}. With a list, but without a place: ${number(list)}.`,
   allNames: (count) => `Show all ${number(count)} names`,
   keysAlone: 'The portal shows only IDs here. To see names, open the lecturer or student file again and press “Read names only”. Nothing '
     + 'is sent.',
@@ -157,7 +158,7 @@ export const words = texts({
     places: (count, all, isSure) =>
       `${isSure ? '' : 'At most '}${places(count)} for ${students(all)}: at least ${number(all - count)} will get no project.`,
     offers: (count, names) => `${many(count, 'lecturer has', 'lecturers have')} no project${names === '' ? '' : `: ${names}`}.`,
-    lists: 'No student has saved a list, so this round would give nobody a project.',
+    lists: 'No student has a list, so this round would give nobody a project.',
     room: (count) => `0 places for ${students(count)}: there is nothing left to choose.`,
   },
   withoutList: (count) => (count === 0 ? '' : `${many(count, 'student has', 'students have')} no list and can’t save one after this.`),

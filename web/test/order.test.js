@@ -47,6 +47,10 @@ test('an order is understood as people write one', () => {
   assert.equal(order('s03, s01; s02 s04'), 's03 s01 s02 s04');
   assert.equal(order('Zoe Sim\n2) Roe, Anton\nAnders\n'), 's03 s02 s04');
   assert.equal(order('Ann Maria Roe\nAnn Roe\n'), 'S05 s01');
+  // a name in two cells is one person, and stands there once
+  const cells = 'Nachname;Vorname\nSim;Zoë\nAnders;Jo\nRoe;Anton\n';
+  assert.equal(order(cells), 's03 s04 s02');
+  assert.deepEqual(made(cells).twice, []);
   assert.equal(order('Zoë Sim, Jo Anders'), 's03 s04');
   assert.equal(order('name,Student ID\nZoë,S03\nAnn,s09\n'), 's03 | Ann, s09');
   assert.equal(order('id;name\ns04;"Anders; Jo"\n'), 's04');
@@ -69,6 +73,10 @@ test('an order with a column of ranks is ordered by it, whatever it is called in
   assert.equal(order('rank,name\n3,Ann Roe\n1,Zoë Sim\n2,Jo Anders\n'), 's03 s04 s01');
   assert.equal(order('3. Ann Roe\n1. Zoe Sim\n2. Jo Anders'), 's03 s04 s01');
   assert.equal(order('Note;id\n1,7;s01\n1,3;s02\n2,0;s03\n'), 's02 s01 s03');
+  // a grade before a name is no rank and a half
+  assert.equal(order('Note;Name\n1,7;Ann Roe\n1,3;Zoë Sim\n2,0;Jo Anders\n'), 's03 s01 s04');
+  assert.equal(order('Name\tNote\nRoe, Ann\t1,7\nSim, Zoë\t1,3\nAnders, Jo\t2,0\n'), 's03 s01 s04');
+  assert.deepEqual(made('Note;Name\n1,7;Ann Roe\n1,3;Zoë Sim\n').ties, []);
   assert.equal(order('id,points\ns01,10\ns02,30\ns03,20\n'), 's02 s03 s01');
 });
 

@@ -62,6 +62,16 @@ test('columns are found by what examinations offices call them, in English and G
     'capacity: Max, id: Projekt-ID, lecturer: Betreuer-ID, title: Projekt',
   );
   assert.equal(taken('students', 'Number;id;name;Full name'), 'id: id, name: name');
+  // what may only count the rows is no student's ID
+  assert.equal(taken('students', 'Nr.;Nachname;Vorname'), 'first: Vorname, name: Nachname');
+  assert.equal(taken('students', 'Nr.;MtkNr;Name, Vorname'), 'id: MtkNr, name: Name, Vorname');
+  assert.equal(taken('students', 'Vorname;Nachname;ID-Nummer;E-Mail-Adresse'), 'email: E-Mail-Adresse, first: Vorname, id: ID-Nummer, '
+    + 'name: Nachname');
+  assert.equal(taken('lecturers', 'Nr.;Erstprüfer/in;max. Anzahl'), 'capacity: max. Anzahl, id: Nr., name: Erstprüfer/in');
+  assert.equal(
+    taken('projects', 'Projekt-Nr.;Titel der Arbeit;Betreuer:in;max. Teilnehmer'),
+    'capacity: max. Teilnehmer, id: Projekt-Nr., lecturer: Betreuer:in, title: Titel der Arbeit',
+  );
   assert.deepEqual(
     ['Matrikelnummer;Nachname;Vorname', 'Kürzel;Name;Max', 'Nr;Titel;Betreuer;Plätze'].map((header) => rollOf(header.split(';'))),
     ['students', 'lecturers', 'projects'],
@@ -303,6 +313,23 @@ test('names and titles that a spreadsheet takes for formulas', () => {
   assert.deepEqual(doubts('projects', entries('projects', 'id,lecturer,title,capacity', 'p,l,-1 as a square,1', 'q,l,Tides,1'), there), [
     'formula: 2',
   ]);
+});
+
+test('letters of another encoding', () => {
+  const rowsOf = (all) => doubtsOf('students', all, nobody()).find(({ doubt }) => doubt === 'misread')?.rows ?? [];
+  const misread = (...names) => rowsOf(names.map((name, at) => ({ id: `s${at}`, name, code: '', row: at })));
+  // UTF-8 as Windows-1252, and twice; then DOS and the Mac as Windows-1252; then what was lost
+  const read = (text) => new TextDecoder('windows-1252').decode(new TextEncoder().encode(text));
+  assert.deepEqual(misread(read('Jörg'), read('Änne'), read('Groß'), read('Łukasz'), read(read('Jörg'))), [0, 1, 2, 3, 4]);
+  assert.deepEqual(misread('M\x81ller', 'J”rg', 'Sch„fer', 'MŸller', 'JŠger', 'Gro§', 'M?ller', '?nne', 'M\ufffdller').length, 9);
+  assert.deepEqual(
+    misread('Zoë Müller', 'Seán O’Brien', 'ANA KOŠIR', 'Žiga Šimek', 'Åsa Ångström', 'JOÃO ÂNGELO', 'Änne Groß', 'L’Haÿ', 'Łucja'),
+    [],
+  );
+  const title = (text) => rowsOf([{ id: 'p', lecturer: 'l', title: text, capacity: '1', row: 2 }]);
+  assert.deepEqual(title('Gr”áe und Maá'), [2]);
+  const good = ['Das „Maß“ der Zeit?', 'Wer? Wie? „Was?“', '§ 5 und 50 €', 'Größe – 3 °C … 5 °C', '中文 и русский'];
+  assert.deepEqual(good.flatMap(title), []);
 });
 
 test('lecturers on no roll, titles that repeat, rows that differ from what is there', () => {

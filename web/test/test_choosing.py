@@ -113,7 +113,7 @@ class Choosing(StudentCase):
         """Nothing is said to be saved before it is; while it is being saved it cannot be saved again; then the time is told."""
         self.open_as(self.key)
         for _ in self.sizes():
-            self.sees("No list saved yet")
+            self.sees("No projects saved yet")
         self.add("p001")
         self.assertEqual(self.browser.driver.find_element("css selector", ".state").text, "Unsaved changes")
         self.door.portal.send_signal(signal.SIGSTOP)

@@ -133,7 +133,7 @@ class Clerk(FileCase):
 
     def result(self):
         """Ben has P001 and Dora P002; Ada, Cleo and Emil had a list and no place, Zoë and Gil no list."""
-        self.sees("With a project: 2 of 7 students", "2 saved no list. 3 saved one, and got no place.")
+        self.sees("With a project: 2 of 7 students", "Without a list: 2. With a list, but without a place: 3.")
         self.browser.press("Download Excel file")
         rows = books.rows(self.downloaded("allocation.xlsx"))
         self.assertEqual([[row[0], row[2]] for row in rows[1:]],

@@ -132,7 +132,7 @@ class NextStep(OfficeCase):
         self.door.load_rolls()
         self.door.move("choosing")
         self.open(OFFICE, "Choosing")
-        self.sees("No student has saved a list, so this round would give nobody a project.")
+        self.sees("No student has a list, so this round would give nobody a project.")
         self.door.do(BEN, "PUT", "/choices", {"projects": ["comets"]})
         self.browser.press("Refresh")
         self.browser.says("Up to date.")

@@ -87,7 +87,7 @@ class Results(PeopleCase):
                             (CLEO, ["Your project is Rings and their ideals, with Emmy Noether.", "It was your 2nd choice."]), (ADA, [
                                 "You didn’t get a project this time.",
                                 "all its places, or all its lecturer’s places, went to students ranked above you"
-                            ]), (EMIL, ["You didn’t get a project, because you didn’t save a list."])):
+                            ]), (EMIL, ["You didn’t get a project, because you saved no list, or an empty one."])):
             self.sign_in(code, "Results")
             self.sees(*parts)
             self.browser.sign_out()
@@ -100,6 +100,26 @@ class Results(PeopleCase):
         self.assertEqual(
             self.downloaded("result.csv").read_bytes().decode(),
             "\ufeffstudent,name,project,title\nben,Ben Bode,pulsars,Pulsars in old sky surveys\n")
+
+    def test_who_withdraws(self):
+        """Whoever saves an empty list is told so, and in the end is not said to have saved none; to the office both are the same."""
+        self.door.move("choosing")
+        self.door.do(ADA, "PUT", "/choices", {"projects": ["rings"]})
+        self.open(ADA, "Choosing")
+        self.browser.press("Remove from your list: *, rings")
+        self.browser.press("Save list")
+        self.browser.says("Saved. An empty list gets you no project.")
+        self.browser.sign_out()
+        self.sign_in(ADA, "Choosing")
+        self.sees("No projects saved yet")
+        self.browser.sign_out()
+        self.sign_in(OFFICE, "Choosing")
+        self.sees("Without a list (5)", "Whoever has saved an empty list, to withdraw, stands here too.")
+        self.browser.sign_out()
+        self.door.move("ranking")
+        self.door.move("published")
+        self.sign_in(ADA, "Results")
+        self.sees("You didn’t get a project, because you saved no list, or an empty one.", "You saved no list, or an empty one.")
 
     def test_titles_from_what_this_browser_saw(self):
         """Without projects.json a browser that saw the first round knows the titles of the second; what is said is said by the phase and

@@ -77,6 +77,21 @@ class Rows(FileCase):
         self.browser.press("Put zeros in front, up to 8 digits")
         self.sees("New: 0. Already in the portal: 4.")
 
+    def test_letters_of_another_encoding(self):
+        """Umlauts of DOS, of the Mac and of UTF-8 that was read wrong: nothing is sent before they are corrected or said to be right."""
+        text = "Matrikelnummer;Nachname;Vorname\n1234567;Müller;Zoe\n1234568;Jäger;Otto\n1234569;Ames;Ada\n"
+        for encoded in (text.encode("cp850"), text.encode("mac_roman"), text.encode().decode("cp1252").encode()):
+            self.choose_file("Students", self.write("s.csv", encoded))
+            self.sees("Letters look misread. Export the file as “CSV UTF-8” and open that, or correct them below: rows 2, 3.")
+            self.assertEqual(self.states(), {"2": "Doubtful", "3": "Doubtful", "4": "New"})
+            self.assertFalse(self.browser.has("button", "Make codes and save them"))
+        for row, name in (("2", "Zoe Müller"), ("3", "Otto Jäger")):
+            self.browser.press(f"Change row {row}")
+            self.value(f"Name, row {row}", name)
+            self.browser.press(f"Done with row {row}")
+        self.browser.wait(lambda: self.states() == {"2": "New", "3": "New", "4": "New"}, "the names to be right")
+        self.browser.find("button", "Make codes and save them")
+
     def test_ids_are_made(self):
         """On request, where there is no column for them; the longer file gets the same ones."""
         self.send_file("Lecturers", YEAR / "lecturers.csv")

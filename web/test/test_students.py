@@ -80,7 +80,7 @@ class Results(StudentCase):
                 "For each project on your list, all its places, or all its lecturer’s places, went to students ranked above you.",
                 "no other list would have got you one of these projects"
             ],
-            "no list": ["because you didn’t save a list"],
+            "no list": ["because you saved no list, or an empty one"],
         }[kind]
 
     def test_second_round(self):

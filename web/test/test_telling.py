@@ -145,6 +145,9 @@ class Telling(PageCase):
             self.assertEqual(self.browser.script(pressed), [])
             self.browser.cdp("Emulation.setEmulatedMedia", media="", features=[{"name": "forced-colors", "value": "active"}])
             self.assertIn("●", self.browser.script("getComputedStyle(document.querySelector('.year [aria-current]'), '::before').content"))
+            current, past = self.browser.script(
+                "['[aria-current]', '.past'].map((one) => getComputedStyle(document.querySelector(`.year ${one}`)).borderTopColor)")
+            self.assertNotEqual(current, past)
             self.browser.cdp("Emulation.setEmulatedMedia", media="", features=[{"name": "forced-colors", "value": "none"}])
             self.browser.press("Sign out")
             if code == ADA:

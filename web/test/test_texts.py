@@ -121,6 +121,28 @@ class German(PageCase):
                 if self.browser.has("button", "Verlassen"):
                     self.browser.press("Verlassen")
 
+    def test_stages_are_whole(self):
+        """On a phone all stages stand in one line, and no name of one is broken, at the year's end, too."""
+        self.door.load_rolls()
+        self.door.move("choosing")
+        self.open()
+        self.browser.choose("Language", "Deutsch")
+        self.browser.find("textbox", "Ihr Code").send_keys(EMIL, Keys.ENTER)
+        for phase, name in (("", "Wahl"), ("ranking", "Rangfolgen"), ("published", "Ergebnisse")):
+            if phase != "":
+                self.door.move(phase)
+                self.browser.open(self.door.address)
+            self.browser.in_phase(name)
+            for width in (320, 360, 390):
+                self.browser.resize(width)
+                lines = self.browser.script("""[...document.querySelectorAll('.year li')].map((stage) => {
+                    const range = document.createRange();
+                    range.selectNodeContents(stage);
+                    return [...new Set([...range.getClientRects()].map(({ top }) => Math.round(top)))];
+                })""")
+                self.assertEqual(len(lines), 4)
+                self.assertEqual(len({top for tops in lines for top in tops}), 1, f"{name} at {width}: {lines}")
+
 
 class Looks(PageCase):
     """Every text that is seen has its contrast, in light and in dark; what can have the focus has a name; no id stands twice."""

@@ -123,7 +123,7 @@ class YearByClicks(PageCase):
             self.assertIn(f"Your project is {title}, with", self.browser.page_text().replace("\u2068", "").replace("\u2069", ""))
             self.browser.sign_out()
         self.sign_in(EMIL, "Results")
-        self.assertIn("You didn’t get a project, because you didn’t save a list.", self.browser.page_text())
+        self.assertIn("You didn’t get a project, because you saved no list, or an empty one.", self.browser.page_text())
         self.browser.sign_out()
         self.sign_in(NOETHER, "Results")
         text = self.browser.page_text()

@@ -35,6 +35,25 @@ for (const language of Object.keys(LANGUAGES)) {
   });
 }
 
+test('one is told as one, and numbers as the language writes them', async () => {
+  const [english, german] = [new Map(flat(await textsOf('en'))), new Map(flat(await textsOf('de')))];
+  assert.deepEqual([1, 5].map(english.get('showProjects')), ['Show the project', 'Show all 5 projects']);
+  assert.deepEqual([1, 5].map(german.get('showProjects')), ['Das Projekt zeigen', 'Alle 5 Projekte zeigen']);
+  assert.equal(english.get('orderShared')(2, 1.3), '2 share the number 1.3. Who comes first?');
+  assert.equal(german.get('orderShared')(2, 1.3), '2 haben die Zahl 1,3. Wer kommt zuerst?');
+});
+
+test('the documents tell what the page says in German', async () => {
+  const [english, german] = [flat(await textsOf('en')), new Map(flat(await textsOf('de')))];
+  for (const page of ['OFFICE', 'PEOPLE']) {
+    const [, section] = readFileSync(new URL(`../docs/${page}.md`, web), 'utf8').split('\n## The page in German\n');
+    const pairs = [...section.matchAll(/`([^`]+)`[^`|]*\| `([^`]+)`/g)];
+    assert.ok(pairs.length > 15, page);
+    const wrong = pairs.filter(([, one, other]) => !english.some(([path, text]) => text === one && german.get(path) === other));
+    assert.deepEqual(wrong.map(([pair]) => pair), [], page);
+  }
+});
+
 test('sentences are translated', async () => {
   const german = new Map(flat(await textsOf('de')));
   const same = flat(await textsOf('en')).filter(([path, text]) =>
