@@ -11,8 +11,8 @@ use Rattle.portal_rules.specs.World.{World}
 use Rattle.portal_tables.specs.Tables.{IsCurrentSchema, IsFirstSchema, first_version, no_schema, version}
 use Rattle.portal_tables.specs.Making.{Creates, IsFresh}
 use Rattle.portal_tables.specs.Steps.{IsAfter}
-use Rattle.portal_tables.specs.declared.select.Query.{Query}
-use Rattle.portal_tables.specs.declared.select.Query.TheVariants.{Office}
+use Rattle.portal_tables.specs.declared.sql.select.Query.{Query}
+use Rattle.portal_tables.specs.declared.sql.select.Query.TheVariants.{Office}
 use Rattle.portal_tables.proofs.Owned.{first_own}
 use Rattle.portal_tables.proofs.Repeated.{answers_still, refuses_still}
 use Rattle.portal_store.specs.Crash.{AfterCreating, AfterUpgrading, AreBarred, AreFirst, AreOpened, AreRefused}

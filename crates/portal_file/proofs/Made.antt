@@ -10,8 +10,8 @@ use Rattle.portal_rules.specs.World.{World}
 use Rattle.portal_rules.specs.Good.{Good}
 use Rattle.portal_tables.specs.Tables.{IsFirstSchema, first_schema, no_schema, portal_schema}
 use Rattle.portal_tables.specs.Making.{has_names}
-use Rattle.portal_tables.specs.declared.names.Names.{Names}
-use Rattle.portal_tables.specs.declared.names.Names.TheVariants.{All, OfSecond}
+use Rattle.portal_tables.specs.declared.sql.names.Names.{Names}
+use Rattle.portal_tables.specs.declared.sql.names.Names.TheVariants.{All, OfSecond}
 use Rattle.std.specs.List.{list_any}
 use Rattle.std.specs.Prelude.{◌||◌}
 use Rattle.portal_tables.specs.inner.Named.{is_named_table, is_named_view}

@@ -25,9 +25,9 @@ use Rattle.portal_tables.specs.Tables.{HasFirstSchema, IsCurrentSchema, IsFirstS
 use Rattle.portal_tables.specs.Tables.{version}
 use Rattle.portal_tables.specs.Steps.{IsStoreError}
 use Rattle.portal_tables.specs.QueryTexts.{query_text}
-use Rattle.portal_tables.specs.declared.names.Names.TheVariants.{All, OfSecond}
-use Rattle.portal_tables.specs.declared.select.Query.TheVariants.{Whole}
-use Rattle.portal_tables.specs.declared.select.RollTable.TheVariants.{Students}
+use Rattle.portal_tables.specs.declared.sql.names.Names.TheVariants.{All, OfSecond}
+use Rattle.portal_tables.specs.declared.sql.select.Query.TheVariants.{Whole}
+use Rattle.portal_tables.specs.declared.sql.select.RollTable.TheVariants.{Students}
 use Rattle.portal_store.specs.Calls.{ChangesTables, CreatesStore, OpensStore, RefusesToCreate, RefusesToOpen}
 use Rattle.portal_store.specs.Calls.{RefusesToUpgrade, StaysStore, UpgradesStore}
 use Rattle.portal_store.specs.Crash.{HasVersion, IsAnswered, IsLeft, IsRejected, Passes, RefusesOne, IsTrueOfOpening}

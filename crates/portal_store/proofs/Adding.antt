@@ -13,7 +13,7 @@ use Rattle.portal_store.proofs.Base.{rise_distinct, all_permuted, distinct_permu
 use Rattle.portal_store.proofs.Base.{all_unmap, all_map, all_append, all_weaker, drop, IsPermutation-append_right}
 use Rattle.portal_store.proofs.Base.{new_lecturer, new_student, InsertsRows, AreNew, Adds, lecturer_new, project_new}
 use Rattle.portal_store.proofs.Base.{student_new, puts_apart, more_put, OnRoll, none_of, place_parents, map-id}
-use Rattle.portal_tables.specs.declared.list_table.Lists.TheVariants as which
+use Rattle.portal_tables.specs.declared.sql.list_table.Lists.TheVariants as which
 use Rattle.portal_tables.proofs.Writes.{unnumbered}
 use Rattle.portal_store.specs.declared.changing.add_rows.NewRows.TheVariants as come
 use Rattle.portal_store.proofs.Still.{holds_after, world_after}

@@ -19,7 +19,7 @@ use Rattle.portal_store.proofs.Absent.{as_many}
 use Rattle.portal_store.proofs.Keeps.{leaves_shown}
 use Rattle.portal_tables.specs.inner.Decoding.{FindsAny}
 use Rattle.portal_tables.specs.inner.Queries.{selection, QueryShows}
-use Rattle.portal_tables.specs.declared.select.Query.{Query}
+use Rattle.portal_tables.specs.declared.sql.select.Query.{Query}
 use Rattle.portal_tables.specs.declared.fault.TableFault.TheVariants as told
 use Rattle.portal_store.specs.declared.store.OpenFault.TheVariants.{NotPortal, OtherVersion, Damaged, Store, Memory}
 

@@ -109,10 +109,10 @@ pub use Rattle.portal_tables.specs.Tables.{first_version, lecturer_tree, own_tre
 pub use Rattle.portal_tables.specs.Tables.{ranked2_tree, ranking2_tree, ranking_tree, second_tree, student_tree}
 pub use Rattle.portal_tables.specs.Tables.{version, HasFirstSchema, IsCurrentSchema, IsFirstSchema, no_schema}
 pub use Rattle.portal_tables.specs.Tables.{first_schema, SameTable, later_trees}
-pub use Rattle.portal_tables.specs.declared.list_table.Lists.TheVariants.{Choices as choice_table, Rankings as ranking_table}
+pub use Rattle.portal_tables.specs.declared.sql.list_table.Lists.TheVariants.{Choices as choice_table, Rankings as ranking_table}
 pub use Rattle.portal_tables.specs.declared.fault.TableFault.{TableFault}
-pub use Rattle.portal_tables.specs.declared.names.Names.TheVariants.{OfSecond}
-pub use Rattle.portal_tables.specs.declared.office.Office.{Office}
+pub use Rattle.portal_tables.specs.declared.sql.names.Names.TheVariants.{OfSecond}
+pub use Rattle.portal_tables.specs.declared.reading.office.Office.{Office}
 pub use Rattle.portal_tables.specs.inner.Changes.{Keeps, ListsBy, columns, every, with_rows, Becomes, InsertsRows}
 pub use Rattle.portal_tables.specs.inner.Changes.{AreNew, Sets}
 pub use Rattle.portal_tables.specs.inner.MakingSteps.{second_trees}

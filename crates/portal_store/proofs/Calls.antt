@@ -9,7 +9,7 @@ use Rattle.portal_store.proofs.Base.{[], survives_weaker, Ok, Second, Reads, Giv
 use Rattle.portal_store.proofs.Base.{SaysNothing, State}
 use Rattle.portal_list.specs.Rows.{AllEntries}
 use Rattle.portal_tables.proofs.Runs.{survives_same}
-use Rattle.portal_tables.specs.declared.names.Names.TheVariants.{All}
+use Rattle.portal_tables.specs.declared.sql.names.Names.TheVariants.{All}
 use Rattle.portal_store.specs.Calls.{CreatesStore, HandsBack, MakesStore, OpensStore, RefusesToCreate, RefusesToUpgrade}
 use Rattle.portal_store.specs.Calls.{UpgradesStore}
 use Rattle.portal_store.specs.Crash.{AfterCreating, AfterUpgrading, IsTrueOfQueries, Suits, as_upgrading, later_queries}

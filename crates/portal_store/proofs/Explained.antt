@@ -6,8 +6,8 @@ use Rattle.portal_store.proofs.Base.{Row, column, HasCleanDisk, State, OpenFault
 use Rattle.portal_store.proofs.Base.{OnlyLooks, AllByRecursion, all_append, take, take_more, ◌+◌}
 use Rattle.sqlite.specs.declared.error.Error.{Error}
 use Rattle.portal_tables.specs.Steps.{HasRefusal, IsStoreError}
-use Rattle.portal_tables.specs.declared.select.Query.{Query}
-use Rattle.portal_tables.specs.declared.select.Query.TheVariants.{Office}
+use Rattle.portal_tables.specs.declared.sql.select.Query.{Query}
+use Rattle.portal_tables.specs.declared.sql.select.Query.TheVariants.{Office}
 use Rattle.portal_tables.proofs.Repeated.{answered_before, answers_still, refused_before}
 use Rattle.portal_store.specs.Crash.{IsTrueOfQueries, IsAnswered, IsRejected, Passes, RefusesOne, ShowsOffice, ShowsVersion}
 use Rattle.portal_store.specs.Crash.{Suits, first_queries}

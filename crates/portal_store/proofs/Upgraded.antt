@@ -19,7 +19,7 @@ use Rattle.portal_tables.specs.inner.Named as named
 use Rattle.portal_tables.specs.inner.Schema.{first_written}
 use Rattle.portal_tables.proofs.Named.{named_is}
 use Rattle.portal_tables.proofs.Defined.{first_as_written}
-use Rattle.portal_tables.specs.declared.names.Names.{Names}
+use Rattle.portal_tables.specs.declared.sql.names.Names.{Names}
 use Rattle.portal_list.specs.Rows.{AllEntries}
 use Rattle.portal_store.specs.inner.Upgrading.{UpgradesWithEntries}
 use Rattle.portal_store.proofs.Asked.{apart_all}

@@ -10,7 +10,7 @@ pub use Rattle.portal_rules.specs.declared.phase.Round.TheVariants.{First, Secon
 pub use Rattle.portal_tables.specs.Rows.{chosen, HasOffice, IsWhole, lecturer_at, number_of_phase, of_key}
 pub use Rattle.portal_tables.specs.Rows.{phase_numbered, project_at, row_key, RowNumbersDiffer, second_placement}
 pub use Rattle.portal_tables.specs.Rows.{second_row, student_at, text_or_none}
-pub use Rattle.portal_tables.specs.declared.list_table.Lists.TheVariants.{Choices as choice_table, Rankings as ranking_table}
+pub use Rattle.portal_tables.specs.declared.sql.list_table.Lists.TheVariants.{Choices as choice_table, Rankings as ranking_table}
 pub use Rattle.portal_tables.specs.Tables.{first_version, HasFirstSchema, IsCurrentSchema, IsFirstSchema}
 pub use Rattle.portal_tables.specs.Tables.{later_trees, lecturer_tree, own_trees, portal_tree, project_tree}
 pub use Rattle.portal_tables.specs.Tables.{ranked2_tree, second_tree, student_tree, tree_of, version}

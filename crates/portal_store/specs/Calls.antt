@@ -10,7 +10,7 @@ use Rattle.portal_rules.specs.Keeping.{IsSettled, KeepsGood}
 use Rattle.portal_rules.specs.declared.phase.Round.TheVariants.{First}
 use Rattle.portal_tables.specs.Tables.{IsCurrentSchema, IsFirstSchema, no_schema}
 use Rattle.portal_tables.specs.Making.{Creates, Upgrades, has_names}
-use Rattle.portal_tables.specs.declared.names.Names.TheVariants.{All, OfSecond}
+use Rattle.portal_tables.specs.declared.sql.names.Names.TheVariants.{All, OfSecond}
 use Rattle.portal_tables.specs.Steps.{Commits, IsAfter, LeavesOnly, Stays}
 use Rattle.portal_store.specs.World.{first_world, world_in}
 use Rattle.portal_store.specs.Kept.{HasDisk, IsCleanStore, IsConsistent, IsTransition, Lasts, LeavesConsistent, StoreState}

@@ -6,11 +6,11 @@ use Rattle.std.specs.List.{AllByRecursion}
 use Rattle.sqlite.specs.State.{State}
 use Rattle.sqlite.specs.declared.error.Error.{Error}
 use Rattle.portal_rules.specs.declared.phase.Round.TheVariants.{Second as InSecond}
-use Rattle.portal_tables.specs.declared.list_table.Lists.TheVariants.{Choices, Rankings}
-use Rattle.portal_tables.specs.declared.select.Query.{Query}
-use Rattle.portal_tables.specs.declared.select.Query.TheVariants.{AllLists, Office, Second, SecondPlacements}
-use Rattle.portal_tables.specs.declared.select.Query.TheVariants.{SecondRanked, Whole}
-use Rattle.portal_tables.specs.declared.select.RollTable.TheVariants.{Lecturers, Projects, Students}
+use Rattle.portal_tables.specs.declared.sql.list_table.Lists.TheVariants.{Choices, Rankings}
+use Rattle.portal_tables.specs.declared.sql.select.Query.{Query}
+use Rattle.portal_tables.specs.declared.sql.select.Query.TheVariants.{AllLists, Office, Second, SecondPlacements}
+use Rattle.portal_tables.specs.declared.sql.select.Query.TheVariants.{SecondRanked, Whole}
+use Rattle.portal_tables.specs.declared.sql.select.RollTable.TheVariants.{Lecturers, Projects, Students}
 use Rattle.std.specs.Prelude.{◌≡◌, ◌≢◌, ℕ, List, [], ◌∷◌, pos, ◌⊎◌, IsTrue, false}
 use Rattle.sqlite.specs.declared.types.Value.TheVariants.{Int}
 use Rattle.portal_store.specs.Kept.{HasGoodWorld, HasGoodFirst, IsConsistent, HasChanged}
@@ -21,7 +21,7 @@ use Rattle.portal_store.specs.declared.store.OpenFault.TheVariants as opening
 use Rattle.portal_store.specs.declared.store.UpgradeFault.{UpgradeFault}
 use Rattle.portal_store.specs.declared.store.UpgradeFault.TheVariants as upgrading
 use Rattle.portal_tables.specs.Making.{Creates, IsFresh, Upgrades, has_names}
-use Rattle.portal_tables.specs.declared.names.Names.TheVariants.{OfSecond}
+use Rattle.portal_tables.specs.declared.sql.names.Names.TheVariants.{OfSecond}
 use Rattle.portal_tables.specs.Steps.{HasAnswer, HasRefusal, IsAfter, IsStoreError}
 use Rattle.portal_store.specs.World.{world_in, world_of, first_world}
 

@@ -53,16 +53,16 @@ pub use Rattle.portal_tables.specs.Tables.{portal_tree, project_tree, ranked2_tr
 pub use Rattle.portal_tables.specs.Tables.{second_texts, second_tree, student_tree, version, names}
 pub use Rattle.portal_tables.specs.declared.fault.TableFault.{TableFault}
 pub use Rattle.portal_tables.specs.declared.fault.TableFault.TheVariants.{Damaged, Memory}
-pub use Rattle.portal_tables.specs.declared.insert.lists.NewPlace.{NewPlace}
-pub use Rattle.portal_tables.specs.declared.list_table.Lists.{Lists}
-pub use Rattle.portal_tables.specs.declared.list_table.Lists.TheVariants.{Choices, Rankings}
-pub use Rattle.portal_tables.specs.declared.select.Query.TheVariants.{AllLists, Choosers, LecturerByCode, LecturerByKey}
-pub use Rattle.portal_tables.specs.declared.select.Query.TheVariants.{ListOf, Listed, Numbers, ProjectsOf}
-pub use Rattle.portal_tables.specs.declared.select.Query.TheVariants.{SecondPlaceOf, SecondRankedBy, StudentByCode}
-pub use Rattle.portal_tables.specs.declared.select.Query.TheVariants.{StudentTold, Whole}
-pub use Rattle.portal_tables.specs.declared.select.RollTable.TheVariants.{Lecturers, Projects, Students}
-pub use Rattle.portal_tables.specs.declared.select.Table.{Table as Named}
-pub use Rattle.portal_tables.specs.declared.select.Table.TheVariants.{OfLists, OfPlaces, OfRanked, OfRoll}
+pub use Rattle.portal_tables.specs.declared.sql.insert.lists.NewPlace.{NewPlace}
+pub use Rattle.portal_tables.specs.declared.sql.list_table.Lists.{Lists}
+pub use Rattle.portal_tables.specs.declared.sql.list_table.Lists.TheVariants.{Choices, Rankings}
+pub use Rattle.portal_tables.specs.declared.sql.select.Query.TheVariants.{AllLists, Choosers, LecturerByCode, LecturerByKey}
+pub use Rattle.portal_tables.specs.declared.sql.select.Query.TheVariants.{ListOf, Listed, Numbers, ProjectsOf}
+pub use Rattle.portal_tables.specs.declared.sql.select.Query.TheVariants.{SecondPlaceOf, SecondRankedBy, StudentByCode}
+pub use Rattle.portal_tables.specs.declared.sql.select.Query.TheVariants.{StudentTold, Whole}
+pub use Rattle.portal_tables.specs.declared.sql.select.RollTable.TheVariants.{Lecturers, Projects, Students}
+pub use Rattle.portal_tables.specs.declared.sql.select.Table.{Table as Named}
+pub use Rattle.portal_tables.specs.declared.sql.select.Table.TheVariants.{OfLists, OfPlaces, OfRanked, OfRoll}
 pub use Rattle.portal_tables.specs.inner.Base.{put, Key, Rise, has, equals, is_before, Phase, Round, First, Second}
 pub use Rattle.portal_tables.specs.inner.Base.{is_key, created, Binary, id_in, is_taken, next_rowid, Database}
 pub use Rattle.portal_tables.specs.inner.Base.{IsDatabase, Held, state, Integer, Cells, Row, bytes, column, Schema}

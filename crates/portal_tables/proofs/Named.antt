@@ -5,8 +5,8 @@ use Rattle.std.proofs.Math.Bool.{or_assoc}
 use Rattle.sqlite_schema.specs.declared.schema.View.{View}
 use Rattle.sqlite_schema.specs.Names.{same_name}
 use Rattle.portal_tables.specs.Making.{has_name, has_names, stands_for_table}
-use Rattle.portal_tables.specs.declared.names.Names.{Names}
-use Rattle.portal_tables.specs.declared.names.Names.TheVariants.{All, OfSecond}
+use Rattle.portal_tables.specs.declared.sql.names.Names.{Names}
+use Rattle.portal_tables.specs.declared.sql.names.Names.TheVariants.{All, OfSecond}
 use Rattle.portal_tables.specs.inner.Named.{has_first_name, has_second_name, is_name, is_named_table, is_named_view}
 use Rattle.portal_tables.proofs.Defined.{portal_as_written}
 

@@ -6,7 +6,7 @@ use Rattle.portal_tables.proofs.Base.{unchanged, IsPlainIfAny, query_text, given
 use Rattle.sqlite.specs.Effect.{RefusesToRead}
 use Rattle.sqlite.specs.State.{IsNoStatement}
 use Rattle.portal_tables.specs.Steps.{HasAnswer, HasRefusal, IsStoreError}
-use Rattle.portal_tables.specs.declared.select.Query.{Query}
+use Rattle.portal_tables.specs.declared.sql.select.Query.{Query}
 use Rattle.portal_tables.proofs.Shows.{plain}
 
 -- of a text with these values, which are the query's

@@ -19,7 +19,7 @@ use Rattle.sqlite_resolve.specs.Compile.{first, with_command}
 use Rattle.sqlite_resolve.specs.Lowering.{Checked, and_then}
 use Rattle.sqlite_resolve.specs.declared.error.CompileError.{CompileError}
 use Rattle.sqlite_resolve.specs.declared.error.CompileError.TheVariants.{NoSuchTable}
-use Rattle.portal_tables.specs.declared.select.Query.{Query}
+use Rattle.portal_tables.specs.declared.sql.select.Query.{Query}
 use Rattle.portal_tables.specs.inner.Queries.{QueryShows}
 use Rattle.portal_tables.proofs.Weak.{Open, schema_with, own_is}
 use Rattle.portal_tables.proofs.Query.{passes}

@@ -3,8 +3,8 @@ use Rattle.std.specs.Prelude.{◌||◌, ◌&&◌, ◌≡◌, ◌≢◌, ◌∷�
 use Rattle.portal_tables.specs.Base.{ℕ, Bool, true, List, Option, Some, None, bytes_eq, list_any, drop}
 use Rattle.portal_tables.specs.Base.{same_name, ℤ, pos, [], AllByRecursion, Database, IsDatabase}
 use Rattle.sqlite_schema.specs.declared.schema.Schema.{Schema}
-use Rattle.portal_tables.specs.declared.names.Names.{Names}
-use Rattle.portal_tables.specs.declared.names.Names.TheVariants.{All, OfSecond}
+use Rattle.portal_tables.specs.declared.sql.names.Names.{Names}
+use Rattle.portal_tables.specs.declared.sql.names.Names.TheVariants.{All, OfSecond}
 use Rattle.portal_tables.specs.Tables.{no_schema, portal_schema, portal_tree, second_tree, first_trees, later_trees}
 use Rattle.portal_tables.specs.Tables.{own_trees, version, first_version, IsFirstSchema, IsCurrentSchema}
 use Rattle.portal_tables.specs.Rows.{portal_row, second_row}

@@ -1,17 +1,17 @@
 -- The text of each query, and the value that it asks for.
 use Rattle.std.specs.Prelude.{◌∷◌, ◌++◌}
 use Rattle.portal_tables.specs.Base.{codes, ℕ, List, [], Words, Row}
-use Rattle.portal_tables.specs.declared.list_table.Lists.TheVariants.{Choices}
-use Rattle.portal_tables.specs.declared.select.Query.{Query}
-use Rattle.portal_tables.specs.declared.select.Query.TheVariants.{Office, Whole, LecturerByCode, StudentByCode}
-use Rattle.portal_tables.specs.declared.select.Query.TheVariants.{LecturerByKey, StudentTold, AllLists, ListOf}
-use Rattle.portal_tables.specs.declared.select.Query.TheVariants.{Choosers, Listed, ProjectsOf, Numbers}
-use Rattle.portal_tables.specs.declared.select.Query.TheVariants.{FirstPlacements, Second, SecondRanked, SecondRankedBy}
-use Rattle.portal_tables.specs.declared.select.Query.TheVariants.{SecondPlacements, SecondPlaceOf}
-use Rattle.portal_tables.specs.declared.select.RollTable.{RollTable}
-use Rattle.portal_tables.specs.declared.select.RollTable.TheVariants.{Lecturers, Projects, Students}
-use Rattle.portal_tables.specs.declared.select.Table.{Table}
-use Rattle.portal_tables.specs.declared.select.Table.TheVariants.{OfRoll, OfLists, OfRanked, OfPlaces}
+use Rattle.portal_tables.specs.declared.sql.list_table.Lists.TheVariants.{Choices}
+use Rattle.portal_tables.specs.declared.sql.select.Query.{Query}
+use Rattle.portal_tables.specs.declared.sql.select.Query.TheVariants.{Office, Whole, LecturerByCode, StudentByCode}
+use Rattle.portal_tables.specs.declared.sql.select.Query.TheVariants.{LecturerByKey, StudentTold, AllLists, ListOf}
+use Rattle.portal_tables.specs.declared.sql.select.Query.TheVariants.{Choosers, Listed, ProjectsOf, Numbers}
+use Rattle.portal_tables.specs.declared.sql.select.Query.TheVariants.{FirstPlacements, Second, SecondRanked, SecondRankedBy}
+use Rattle.portal_tables.specs.declared.sql.select.Query.TheVariants.{SecondPlacements, SecondPlaceOf}
+use Rattle.portal_tables.specs.declared.sql.select.RollTable.{RollTable}
+use Rattle.portal_tables.specs.declared.sql.select.RollTable.TheVariants.{Lecturers, Projects, Students}
+use Rattle.portal_tables.specs.declared.sql.select.Table.{Table}
+use Rattle.portal_tables.specs.declared.sql.select.Table.TheVariants.{OfRoll, OfLists, OfRanked, OfPlaces}
 use Rattle.portal_tables.specs.Tables.{ListTable, names}
 
 -- the texts that show all rows, and the list of one owner

@@ -4,7 +4,7 @@ use Rattle.sqlite.specs.State.{FailsToQuery, Shown, store_error}
 use Rattle.sqlite.specs.declared.error.Error.{Error}
 use Rattle.sqlite_trees.specs.declared.error.StoreError.{StoreError}
 use Rattle.portal_tables.specs.Base.{IsTrue, Row, Trees, Database, State}
-use Rattle.portal_tables.specs.declared.select.Query.{Query}
+use Rattle.portal_tables.specs.declared.sql.select.Query.{Query}
 use Rattle.portal_tables.specs.QueryTexts.{given, query_text}
 
 -- the change is made and committed

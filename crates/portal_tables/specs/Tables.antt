@@ -2,8 +2,8 @@
 use Rattle.std.specs.Prelude.{◌∷◌, ◌++◌, ◌≡◌}
 use Rattle.portal_tables.specs.Base.{[], codes, List, ℕ, Table, Schema, created, table_defined_by, fold, option_map_or}
 use Rattle.portal_tables.specs.Base.{result_ok, First, Second, take, AllZip}
-use Rattle.portal_tables.specs.declared.list_table.Lists.{Lists}
-use Rattle.portal_tables.specs.declared.list_table.Lists.TheVariants.{Choices, Rankings}
+use Rattle.portal_tables.specs.declared.sql.list_table.Lists.{Lists}
+use Rattle.portal_tables.specs.declared.sql.list_table.Lists.TheVariants.{Choices, Rankings}
 
 -- a table of lists; the columns `owner` and `item` have the names of the rolls that they refer to
 pub record ListTable : Type 0 where

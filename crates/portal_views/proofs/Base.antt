@@ -46,11 +46,11 @@ pub use Rattle.portal_tables.specs.Rows.{place_key, IsWhole, CountUp, place_of}
 pub use Rattle.portal_tables.specs.Tables.{tree_of, assigned2_tree, lecturer_tree}
 pub use Rattle.portal_tables.specs.Tables.{project_tree, student_tree, IsCurrentSchema, HasFirstSchema}
 pub use Rattle.portal_tables.specs.declared.fault.TableFault.{TableFault}
-pub use Rattle.portal_tables.specs.declared.list_table.Lists.{Lists}
-pub use Rattle.portal_tables.specs.declared.list_table.Lists.TheVariants.{Choices, Rankings}
-pub use Rattle.portal_tables.specs.declared.select.RollTable.{RollTable}
-pub use Rattle.portal_tables.specs.declared.select.RollTable.TheVariants.{Lecturers, Projects, Students}
-pub use Rattle.portal_tables.specs.declared.select.Table.TheVariants.{OfLists, OfPlaces, OfRoll}
+pub use Rattle.portal_tables.specs.declared.sql.list_table.Lists.{Lists}
+pub use Rattle.portal_tables.specs.declared.sql.list_table.Lists.TheVariants.{Choices, Rankings}
+pub use Rattle.portal_tables.specs.declared.sql.select.RollTable.{RollTable}
+pub use Rattle.portal_tables.specs.declared.sql.select.RollTable.TheVariants.{Lecturers, Projects, Students}
+pub use Rattle.portal_tables.specs.declared.sql.select.Table.TheVariants.{OfLists, OfPlaces, OfRoll}
 pub use Rattle.portal_tables.specs.inner.Changes.{ListsBy, columns, every, has_number}
 pub use Rattle.portal_tables.specs.inner.Decoding.{ShowsAs, FindsAny}
 pub use Rattle.portal_tables.specs.inner.Owners.{AreOwned, choice_shown, has_list}

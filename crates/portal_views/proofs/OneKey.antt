@@ -11,7 +11,7 @@ use Rattle.portal_views.proofs.Base.{student_tree, assigned2_tree, roll_tree, Of
 use Rattle.portal_views.proofs.Base.{RollTable, Lecturers, Projects, Students, IsCurrentSchema, RowNumbersDiffer}
 use Rattle.portal_views.proofs.Base.{has_text, every, of_key, row_key, by_key, with_checks, current_own, apart_filter}
 use Rattle.portal_views.proofs.Base.{form_of, text_equals, equals_text}
-use Rattle.portal_tables.specs.declared.select.Table.{Table as Named}
+use Rattle.portal_tables.specs.declared.sql.select.Table.{Table as Named}
 
 told_not : (o : Ordering) → is_true (from_truth (Some (is_ne o))) ≡ not (is_eq o)
 told_not Equal = refl

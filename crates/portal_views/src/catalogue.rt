@@ -14,8 +14,8 @@ ghost use Rattle.portal_tables.specs.inner.Shown.{shown_lecturer, shown_project}
 use portal_rules::{
     LecturerRow, Listing, ProjectRow, Round, lecturer_left, listings_of, project_left,
 };
-use portal_tables::decode::{decode_rows, push_some};
-use portal_tables::select::RollTable;
+use portal_tables::reading::decode::{decode_rows, push_some};
+use portal_tables::sql::select::RollTable;
 use portal_tables::{TableFault, first_pairs_in, roll_in};
 use spa_rows::Key;
 use sqlite::{Alter, Connection};

@@ -5,7 +5,7 @@ ghost use Rattle.portal_views.specs.inner.Contents.{rows_held, HasRead, HasFineR
 ghost use Rattle.portal_tables.specs.Reads.{GivesOrFails, Blames, Reads};
 
 use portal_rules::{LecturerRow, ProjectRow, Round, StudentRow};
-use portal_tables::list_table::Lists;
+use portal_tables::sql::list_table::Lists;
 use portal_tables::{TableFault, entries_in, pairs_in, parts_of, rolls_in};
 use spa_rows::Key;
 use sqlite::{Alter, Connection};

@@ -12,9 +12,9 @@ ghost use Rattle.portal_views.specs.inner.Lines.{IsNamedWithPlacement, placement
 ghost use Rattle.portal_views.specs.inner.Lines.{applicant_lines};
 
 use portal_rules::{Person, Round};
-use portal_tables::cells::{assigned_at, bytes_at, key_at, name_at};
-use portal_tables::decode::{FromCells, at_most_one};
-use portal_tables::select::{Query, read_each};
+use portal_tables::reading::cells::{assigned_at, bytes_at, key_at, name_at};
+use portal_tables::reading::decode::{FromCells, at_most_one};
+use portal_tables::sql::select::{Query, read_each};
 use portal_tables::{TableFault, read_in_order, second_placement_in};
 use spa_rows::Key;
 use sqlite::{Alter, Connection, Row};

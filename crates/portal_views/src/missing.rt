@@ -12,10 +12,10 @@ ghost use Rattle.portal_tables.specs.inner.Placements.{placement_before};
 ghost use Rattle.portal_tables.specs.inner.Shown.{first_cell, shown_project};
 
 use portal_rules::{Phase, Round};
-use portal_tables::cells::{bytes_at, key_at};
-use portal_tables::decode::push_some;
-use portal_tables::list_table::Lists;
-use portal_tables::select::{Query, finds_any};
+use portal_tables::reading::cells::{bytes_at, key_at};
+use portal_tables::reading::decode::push_some;
+use portal_tables::sql::list_table::Lists;
+use portal_tables::sql::select::{Query, finds_any};
 use portal_tables::{Rolls, TableFault, has_list_in, is_named, read_in_order, takes_part};
 use spa_rows::Key;
 use sqlite::{Alter, Connection, Row};

@@ -7,8 +7,8 @@ ghost use Rattle.portal_tables.specs.Reads.{MayRead, GivesOrFails, Blames};
 
 use crate::lines::person_at;
 use portal_rules::{Listing, Phase, Round, StudentView};
-use portal_tables::cells::key_at;
-use portal_tables::list_table::Lists;
+use portal_tables::reading::cells::key_at;
+use portal_tables::sql::list_table::Lists;
 use portal_tables::{TableFault, list_in, result_in};
 use spa_rows::Key;
 use sqlite::{Alter, Connection, Row};

@@ -14,8 +14,8 @@ use Rattle.portal_rules.specs.Good.{Good}
 use Rattle.portal_list.specs.Rows.{AllEntries}
 use Rattle.portal_tables.specs.inner.Changes.{every}
 use Rattle.portal_tables.specs.inner.Queries.{selection}
-use Rattle.portal_tables.specs.declared.office.Office.{Office}
-use Rattle.portal_tables.specs.declared.select.Query.{Query}
+use Rattle.portal_tables.specs.declared.reading.office.Office.{Office}
+use Rattle.portal_tables.specs.declared.sql.select.Query.{Query}
 use Rattle.portal_tables.specs.Reads.{HasRound}
 use Rattle.portal_store.specs.Kept.{IsConsistent, IsConsistentIn}
 use Rattle.portal_store.specs.inner.Keeping.{AreEntries}

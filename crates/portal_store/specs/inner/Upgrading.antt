@@ -8,7 +8,7 @@ use Rattle.portal_list.specs.Rows.{AllEntries, HasEntries}
 use Rattle.portal_tables.specs.Making.{Upgrades, has_names}
 use Rattle.portal_tables.specs.Steps.{Commits, LeavesOnly}
 use Rattle.portal_tables.specs.Tables.{IsFirstSchema, first_version}
-use Rattle.portal_tables.specs.declared.names.Names.TheVariants.{OfSecond}
+use Rattle.portal_tables.specs.declared.sql.names.Names.TheVariants.{OfSecond}
 use Rattle.portal_store.specs.Crash.{AreFirst, IsUpgradedFrom, LeavesUpgraded}
 use Rattle.portal_store.specs.World.{world_in}
 use Rattle.portal_store.specs.inner.Asked.{AdmitsAs}

@@ -7,7 +7,7 @@ ghost use Rattle.portal_store.specs.inner.Ending.{CommitsChange};
 ghost use Rattle.portal_store.specs.inner.Keeping.{IsTransitionIn};
 
 use portal_rules::{LecturerRow, ProjectRow, Round, StudentRow};
-use portal_tables::insert::{Lecturers, Projects, Students, add_all};
+use portal_tables::sql::insert::{Lecturers, Projects, Students, add_all};
 use portal_tables::{TableChange, TableFault, commit, outside_transaction};
 use sqlite::{Alter, Connection, Error, Transaction};
 use std::alloc::Global;

@@ -8,9 +8,9 @@ ghost use Rattle.portal_store.specs.inner.Ending.{CommitsChange};
 ghost use Rattle.portal_store.specs.inner.Putting.{TurnsThere};
 
 use portal_rules::Round;
-use portal_tables::list_table::Lists;
-use portal_tables::select::{Query, read};
-use portal_tables::update::set_ranked;
+use portal_tables::sql::list_table::Lists;
+use portal_tables::sql::select::{Query, read};
+use portal_tables::sql::update::set_ranked;
 use portal_tables::{TableChange, TableFault, commit, outside_transaction, put_list, rank_second};
 use spa_rows::Key;
 use sqlite::{Alter, Connection, Error, Transaction};

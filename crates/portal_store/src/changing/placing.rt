@@ -13,8 +13,8 @@ ghost use Rattle.portal_rules.specs.declared.phase.Round.TheVariants.{First};
 
 use portal_rules::index::Pairs;
 use portal_rules::{Phase, Round};
-use portal_tables::cells::{bytes_at, key_at};
-use portal_tables::select::{Query, RollTable, read};
+use portal_tables::reading::cells::{bytes_at, key_at};
+use portal_tables::sql::select::{Query, RollTable, read};
 use portal_tables::{
     Assignment, TableChange, TableFault, assign_all, commit, outside_transaction, put_placements,
     set_phase,

@@ -12,7 +12,7 @@ use crate::fault::create_fault_of;
 use crate::reading::view_cache::ViewCache;
 use crate::store::{CreateFault, NotOpened, Store};
 use portal_rules::Code;
-use portal_tables::names::{Names, is_empty, is_there};
+use portal_tables::sql::names::{Names, is_empty, is_there};
 use portal_tables::{PortalSchema, TableFault, create_portal};
 use sqlite::{Alter, Connection, MemStore};
 use std::alloc::Global;

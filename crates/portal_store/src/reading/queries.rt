@@ -17,8 +17,8 @@ ghost use Rattle.portal_store.specs.inner.Reading.{IsNow, Remembers, RemembersIn
 use crate::reading::round::current_round;
 use crate::reading::view_cache::ViewCache;
 use portal_rules::{KeepFault, Listing, Phase, Round, View};
-use portal_tables::decode::at_most_one;
-use portal_tables::select::{Query, read_rows};
+use portal_tables::reading::decode::at_most_one;
+use portal_tables::sql::select::{Query, read_rows};
 use portal_tables::{Office, TableFault};
 use portal_views::{catalogue_in, lecturer_view, office_view, student_view};
 use sqlite::{Alter, Connection, Row};

@@ -6,7 +6,7 @@ use Rattle.portal_tables.specs.inner.Base.{First, Second}
 use Rattle.portal_tables.specs.Base.{fold, table_defined_by}
 use Rattle.portal_tables.specs.Tables.{no_schema, first_schema, portal_schema, first_trees, second_tree, later_trees}
 use Rattle.portal_tables.specs.Tables.{own_trees, names, IsFirstSchema}
-use Rattle.portal_tables.specs.declared.list_table.Lists.TheVariants.{Choices, Rankings}
+use Rattle.portal_tables.specs.declared.sql.list_table.Lists.TheVariants.{Choices, Rankings}
 use Rattle.portal_tables.specs.inner.Schema.{portal, lecturer_schema, project_schema, student_schema, list_table, second}
 use Rattle.portal_tables.specs.inner.Schema.{ranked2, assigned2}
 use Rattle.sqlite.specs.Change.{next_tree}

@@ -3,8 +3,8 @@ use Rattle.std.specs.Prelude.{◌||◌, ◌&&◌}
 use Rattle.portal_tables.specs.Base.{View, same_name}
 use Rattle.portal_tables.specs.Making.{stands_for_table}
 use Rattle.portal_tables.specs.inner.Base.{ℕ, Bool, List, Table, codes}
-use Rattle.portal_tables.specs.declared.names.Names.{Names}
-use Rattle.portal_tables.specs.declared.names.Names.TheVariants.{All, OfSecond}
+use Rattle.portal_tables.specs.declared.sql.names.Names.{Names}
+use Rattle.portal_tables.specs.declared.sql.names.Names.TheVariants.{All, OfSecond}
 
 abbrev pub has_first_name : List ℕ → Bool
 has_first_name n =

@@ -7,8 +7,8 @@ pub use Rattle.portal_tables.specs.Tables.{tree_of}
 use Rattle.portal_tables.specs.Tables.{ranked2_tree}
 use Rattle.portal_tables.specs.Rows.{row_key, IsWhole, by_place, chosen, named_by, of_key}
 use Rattle.portal_tables.specs.inner.Shown.{first_cell}
-use Rattle.portal_tables.specs.declared.list_table.Lists.{Lists}
-use Rattle.portal_tables.specs.declared.list_table.Lists.TheVariants.{Choices, Rankings}
+use Rattle.portal_tables.specs.declared.sql.list_table.Lists.{Lists}
+use Rattle.portal_tables.specs.declared.sql.list_table.Lists.TheVariants.{Choices, Rankings}
 
 -- the items of an owner's rows, in the order of their places
 abbrev pub list_in_order : List Row → List Key

@@ -1,17 +1,17 @@
 -- What each query reads of the tables, and shows.
 use Rattle.std.specs.Prelude.{◌∷◌}
 use Rattle.portal_tables.specs.inner.Base.{ℕ, List, [], Bool, Row, Trees, Round, First, InSecond}
-use Rattle.portal_tables.specs.declared.list_table.Lists.TheVariants.{Choices}
-use Rattle.portal_tables.specs.declared.select.Query.{Query}
-use Rattle.portal_tables.specs.declared.select.Query.TheVariants.{Office, Whole, LecturerByCode, StudentByCode}
-use Rattle.portal_tables.specs.declared.select.Query.TheVariants.{LecturerByKey, StudentTold, AllLists, ListOf}
-use Rattle.portal_tables.specs.declared.select.Query.TheVariants.{Choosers, Listed, ProjectsOf, Numbers}
-use Rattle.portal_tables.specs.declared.select.Query.TheVariants.{FirstPlacements, Second, SecondRanked, SecondRankedBy}
-use Rattle.portal_tables.specs.declared.select.Query.TheVariants.{SecondPlacements, SecondPlaceOf}
-use Rattle.portal_tables.specs.declared.select.RollTable.{RollTable}
-use Rattle.portal_tables.specs.declared.select.RollTable.TheVariants.{Lecturers, Projects, Students}
-use Rattle.portal_tables.specs.declared.select.Table.{Table}
-use Rattle.portal_tables.specs.declared.select.Table.TheVariants.{OfRoll, OfLists, OfRanked, OfPlaces}
+use Rattle.portal_tables.specs.declared.sql.list_table.Lists.TheVariants.{Choices}
+use Rattle.portal_tables.specs.declared.sql.select.Query.{Query}
+use Rattle.portal_tables.specs.declared.sql.select.Query.TheVariants.{Office, Whole, LecturerByCode, StudentByCode}
+use Rattle.portal_tables.specs.declared.sql.select.Query.TheVariants.{LecturerByKey, StudentTold, AllLists, ListOf}
+use Rattle.portal_tables.specs.declared.sql.select.Query.TheVariants.{Choosers, Listed, ProjectsOf, Numbers}
+use Rattle.portal_tables.specs.declared.sql.select.Query.TheVariants.{FirstPlacements, Second, SecondRanked, SecondRankedBy}
+use Rattle.portal_tables.specs.declared.sql.select.Query.TheVariants.{SecondPlacements, SecondPlaceOf}
+use Rattle.portal_tables.specs.declared.sql.select.RollTable.{RollTable}
+use Rattle.portal_tables.specs.declared.sql.select.RollTable.TheVariants.{Lecturers, Projects, Students}
+use Rattle.portal_tables.specs.declared.sql.select.Table.{Table}
+use Rattle.portal_tables.specs.declared.sql.select.Table.TheVariants.{OfRoll, OfLists, OfRanked, OfPlaces}
 use Rattle.portal_tables.specs.Rows.{has_text}
 use Rattle.portal_tables.specs.inner.Changes.{ListsBy, every, columns, has_number}
 use Rattle.portal_tables.specs.inner.Texts.{round_of}

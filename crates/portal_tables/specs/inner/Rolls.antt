@@ -1,9 +1,9 @@
 -- The three rolls by rising key, whatever the order of their rows in the tables.
 use Rattle.std.specs.Prelude.{◌≡◌, ◌∷◌}
 use Rattle.portal_tables.specs.inner.Base.{List, [], map, Row, Trees, Rise, put_all}
-use Rattle.portal_tables.specs.declared.sorted_rolls.Rolls.{Rolls}
-use Rattle.portal_tables.specs.declared.select.RollTable.{RollTable}
-use Rattle.portal_tables.specs.declared.select.RollTable.TheVariants.{Lecturers, Projects, Students}
+use Rattle.portal_tables.specs.declared.reading.sorted_rolls.Rolls.{Rolls}
+use Rattle.portal_tables.specs.declared.sql.select.RollTable.{RollTable}
+use Rattle.portal_tables.specs.declared.sql.select.RollTable.TheVariants.{Lecturers, Projects, Students}
 use Rattle.portal_tables.specs.inner.Queries.{roll_tree, columns_of}
 use Rattle.portal_tables.specs.inner.Changes.{columns}
 use Rattle.portal_tables.specs.Rows.{row_key}

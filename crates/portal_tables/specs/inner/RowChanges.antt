@@ -4,7 +4,7 @@ use Rattle.portal_tables.specs.inner.Base.{ℕ, ℤ, pos, List, [], map, filter,
 use Rattle.portal_tables.specs.inner.Base.{is_eq, Value, Null, Int, Words, Row, column, value_cmp, Database, IsDatabase}
 use Rattle.portal_tables.specs.inner.Base.{Ghosts, Held, state, Key, LecturerRow, ProjectRow, StudentRow, Phase, Round}
 use Rattle.portal_tables.specs.inner.Base.{First, Second}
-use Rattle.portal_tables.specs.declared.insert.lists.NewPlace.{NewPlace}
+use Rattle.portal_tables.specs.declared.sql.insert.lists.NewPlace.{NewPlace}
 use Rattle.portal_tables.specs.Tables.{portal_tree, lecturer_tree, student_tree, second_tree, IsCurrentSchema}
 use Rattle.portal_tables.specs.Running.{Ran, Made}
 use Rattle.portal_tables.specs.Rows.{RowNumbersDiffer, has_text, portal_row, second_row, number_of_phase}

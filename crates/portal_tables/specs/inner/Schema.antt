@@ -1,7 +1,7 @@
 -- The portal's schemas, written out: what the CREATE texts of `Tables` define.
 use Rattle.std.specs.Prelude.{◌∷◌, ◌++◌, ◌+◌}
 use Rattle.portal_tables.specs.Tables.{ListTable, names}
-use Rattle.portal_tables.specs.declared.list_table.Lists.TheVariants.{Choices, Rankings}
+use Rattle.portal_tables.specs.declared.sql.list_table.Lists.TheVariants.{Choices, Rankings}
 use Rattle.portal_tables.specs.inner.Base.{Binary, true, false, [], Some, None, codes, List, ℕ, pos, Bool, Option, Null}
 use Rattle.portal_tables.specs.inner.Base.{Int, Table, Schema, Kind, Integer, Text, Term, lit, col, op2, Compare, And}
 use Rattle.portal_tables.specs.inner.Base.{Or, Eq, Ge, Le, First, Second, Column, Index, Reference, NoAction, Order, plain}

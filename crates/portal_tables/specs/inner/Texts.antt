@@ -2,8 +2,8 @@
 use Rattle.std.specs.Prelude.{◌++◌}
 use Rattle.portal_tables.specs.inner.Base.{codes, List, ℕ, Round, First, Second}
 use Rattle.portal_tables.specs.Tables.{ListTable}
-use Rattle.portal_tables.specs.declared.list_table.Lists.{Lists}
-use Rattle.portal_tables.specs.declared.list_table.Lists.TheVariants.{Choices, Rankings}
+use Rattle.portal_tables.specs.declared.sql.list_table.Lists.{Lists}
+use Rattle.portal_tables.specs.declared.sql.list_table.Lists.TheVariants.{Choices, Rankings}
 
 -- the round, and the place among the tables
 abbrev pub round_of : Lists → Round

@@ -3,7 +3,7 @@ use Rattle.std.specs.Prelude.{◌≡◌, ◌≤◌, true, if◌then◌else◌}
 use Rattle.spa_rows.specs.Limits.{most_places}
 use Rattle.spa_rows.specs.Lines.{is_key}
 use Rattle.portal_tables.specs.Tables.{tree_of}
-use Rattle.portal_tables.specs.declared.list_table.Lists.TheVariants.{Choices, Rankings}
+use Rattle.portal_tables.specs.declared.sql.list_table.Lists.TheVariants.{Choices, Rankings}
 use Rattle.portal_tables.specs.Rows.{of_key, IsWhole}
 use Rattle.portal_views.specs.inner.Base.{AllByRecursion, Vec, List, [], map, filter, Option, Global, Row, column}
 use Rattle.portal_views.specs.inner.Base.{bytes, Trees, Database, number_in, Phase, Round, First, Second, Listing}

@@ -5,7 +5,7 @@ use Rattle.portal_rules.specs.inner.Offers.{offered}
 use Rattle.portal_views.specs.inner.Base.{List, map, filter, filter_map, AllByRecursion, Trees, Database, IsDatabase}
 use Rattle.portal_views.specs.inner.Base.{Round, First, Second, LecturerRow, ProjectRow, Listing, Key, equals}
 use Rattle.portal_views.specs.inner.Base.{IsLecturer, IsProject}
-use Rattle.portal_tables.specs.declared.select.RollTable.TheVariants.{Lecturers, Projects, Students}
+use Rattle.portal_tables.specs.declared.sql.select.RollTable.TheVariants.{Lecturers, Projects, Students}
 use Rattle.portal_tables.specs.inner.Placements.{first_pairs, places_shown, HasPairKeys}
 use Rattle.portal_tables.specs.inner.Rolls.{RollRises, lecturers_shown, projects_shown}
 use Rattle.portal_tables.specs.inner.Shown.{shown_lecturer, shown_project}

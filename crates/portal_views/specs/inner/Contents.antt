@@ -3,7 +3,7 @@ use Rattle.std.specs.Prelude.{◌≡◌}
 use Rattle.portal_views.specs.inner.Base.{List, None, map, AllByRecursion, filter_map, Row, Trees, Round, IsLecturer}
 use Rattle.portal_views.specs.inner.Base.{IsProject, IsStudent, Key, LecturerRow, ProjectRow, StudentRow}
 use Rattle.portal_tables.specs.inner.Owners.{AreOwned, entry, with_list, IsRead, IsFine}
-use Rattle.portal_tables.specs.declared.list_table.Lists.TheVariants.{Choices, Rankings}
+use Rattle.portal_tables.specs.declared.sql.list_table.Lists.TheVariants.{Choices, Rankings}
 use Rattle.portal_tables.specs.inner.Placements.{pair_shown, HasPlacement}
 use Rattle.portal_tables.specs.inner.Rolls.{RollsRise, lecturers_shown, projects_shown, students_shown}
 use Rattle.portal_tables.specs.inner.Shown.{shown_lecturer, shown_project, shown_student}

@@ -4,7 +4,7 @@ use Rattle.std.specs.List.{list_any}
 use Rattle.portal_rules.specs.Calls.{OfficeSees}
 use Rattle.portal_rules.specs.Words.{is_empty}
 use Rattle.portal_tables.specs.Tables.{tree_of, student_tree}
-use Rattle.portal_tables.specs.declared.list_table.Lists.TheVariants.{Choices, Rankings}
+use Rattle.portal_tables.specs.declared.sql.list_table.Lists.TheVariants.{Choices, Rankings}
 use Rattle.portal_tables.specs.Rows.{IsWhole, of_key, row_key}
 use Rattle.portal_tables.specs.inner.Owners.{has_list, choice_shown}
 use Rattle.portal_tables.specs.inner.Placements.{pair_shown, placement_before, HasFirstPlace, HasPlacement}

@@ -6,9 +6,9 @@ use crate::tests::tables::{
     write_list,
 };
 use portal_core::{LecturerView, Listing, OfficeView, Person, Phase, Round};
-use portal_tables::list_table::Lists;
-use portal_tables::names::{Names, is_there};
-use portal_tables::select::{Query, Table, read};
+use portal_tables::sql::list_table::Lists;
+use portal_tables::sql::names::{Names, is_there};
+use portal_tables::sql::select::{Query, Table, read};
 use portal_tables::{
     FIRST_VERSION, Office, PortalSchema, TableFault, VERSION, office_in, put_placements,
     rank_second, result_in, second_in, set_phase, upgrade_tables,

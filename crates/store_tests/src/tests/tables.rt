@@ -1,10 +1,10 @@
 //! Tests each statement and each query, over a small department.
 
 use portal_core::{Code, LecturerRow, Name, Phase, ProjectRow, Round, StudentRow};
-use portal_tables::insert::{Lecturers, NewPlace, Projects, Students, add_all};
-use portal_tables::list_table::Lists;
-use portal_tables::select::{Query, RollTable, Table, finds_any, read, read_each, read_rows};
-use portal_tables::update::{set_phase, set_ranked};
+use portal_tables::sql::insert::{Lecturers, NewPlace, Projects, Students, add_all};
+use portal_tables::sql::list_table::Lists;
+use portal_tables::sql::select::{Query, RollTable, Table, finds_any, read, read_each, read_rows};
+use portal_tables::sql::update::{set_phase, set_ranked};
 use portal_tables::{
     Assignment, PortalSchema, TableFault, assign_all, clear_list, create_portal, entries_in,
     put_list, row_numbers_differ,

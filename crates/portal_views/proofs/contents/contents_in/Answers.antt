@@ -1,6 +1,6 @@
 use Rattle.portal_views.proofs.Base.{Database, HasFineRows, HasReadOf, HasRound, IsDatabase, Round, ap, Err}
 use Rattle.portal_views.proofs.Base.{reads_handed, reads_more, reads_open, reads_then, rows_from, state, subst₃, sym}
-use Rattle.portal_tables.specs.declared.sorted_rolls.Rolls.{Rolls}
+use Rattle.portal_tables.specs.declared.reading.sorted_rolls.Rolls.{Rolls}
 use Rattle.portal_tables.specs.inner.Rolls.{AreRolls}
 use Rattle.portal_views.specs.inner.Contents.{HasFineRolls}
 use Rattle.portal_views.proofs.Turns.{reads_first, reads_rejected}

@@ -3,7 +3,7 @@ use Rattle.portal_views.proofs.Base.{HasPlacementAsked, IfOk-weaker, IsLecturer,
 use Rattle.portal_views.proofs.Base.{Some, Students, all_two, all_weaker, ap, judged, office_sees_with, reads_handed}
 use Rattle.portal_views.proofs.Base.{reads_more, reads_open, reads_then, shown_lecturer, shown_student, state, subst₃}
 use Rattle.portal_views.proofs.Base.{sym}
-use Rattle.portal_tables.specs.declared.sorted_rolls.Rolls.{Rolls}
+use Rattle.portal_tables.specs.declared.reading.sorted_rolls.Rolls.{Rolls}
 use Rattle.portal_tables.specs.inner.Rolls.{AreRolls}
 use Rattle.portal_views.specs.inner.Office.{IsReadableByOffice}
 use Rattle.portal_views.proofs.OfficeLists.{reads_whole}

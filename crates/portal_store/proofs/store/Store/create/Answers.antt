@@ -1,6 +1,6 @@
 use Rattle.portal_store.proofs.Base.{IsTrue, Survives, rules, sym, ap, subst, ◌∙◌, IsAfter, Creates, clean_if_open}
 use Rattle.portal_store.proofs.Base.{has_names, is_code, state}
-use Rattle.portal_tables.specs.declared.names.Names.TheVariants.{All}
+use Rattle.portal_tables.specs.declared.sql.names.Names.TheVariants.{All}
 use Rattle.portal_store.specs.Calls.{CreatesStore}
 use Rattle.portal_store.proofs.Calls.{created, not_created, untouched}
 use Rattle.portal_store.proofs.First.{first_kept}

@@ -1,5 +1,0 @@
-use Rattle.std.proofs.Common.{rules}
-use Rattle.portal_tables.proofs.select.Query.text.Goals as goal
-
-pub returns-in-Choosers-First-default : goal.returns-in-Choosers-First-default
-returns-in-Choosers-First-default c = search rules

@@ -1,0 +1,6 @@
+use Rattle.portal_tables.proofs.Base.{refl}
+use Rattle.portal_tables.proofs.Statements.{projects_added, project_eight, by_eight}
+use Rattle.portal_tables.proofs.sql.insert.rolls.ProjectsTargetProjectRow.text_of_eight.Goals as goal
+
+pub returns : goal.returns
+returns g c = projects_added g.S.Store 8 _ _ project_eight (by_eight (λ a b c d e f g h more. refl))
