@@ -21,10 +21,10 @@ pub use Rattle.httparse.specs.Grammar.{NeverHasRequest, skip_ows}
 pub use Rattle.httparse.specs.Spans.{RequestOverflows, header_bytes, IsRequestAt, IsRequestWithin, name_and_value}
 pub use Rattle.httparse.specs.Spans.{RequestExceeds}
 pub use Rattle.portal_frame.specs.Stream.{head_limit, line_limit, body_limit, request_limit, path_of, values_of}
-pub use Rattle.portal_frame.specs.Stream.{header_lines, RequestContent, Opens, asked_of, bad_head, body_length, Faulty}
+pub use Rattle.portal_frame.specs.Stream.{header_lines, RequestContent, Opens, asked_of, body_length, Faulty}
 pub use Rattle.portal_frame.specs.Stream.{fields_of}
-pub use Rattle.portal_frame.specs.Stream.{headless, is_blank, item_of, Whole, is_length, has_bad_host, has_any}
-pub use Rattle.portal_frame.specs.Stream.{length_of, RefusalContent, bad_length, Takes, HasNoHead, Over, after_lines}
+pub use Rattle.portal_frame.specs.Stream.{headless, is_blank, item_of, Whole, is_length, has_bad_host, is_empty}
+pub use Rattle.portal_frame.specs.Stream.{length_of, RefusalContent, Takes, HasNoHead, Over, after_lines}
 pub use Rattle.portal_frame.specs.Stream.{is_head}
 pub use Rattle.portal_frame.specs.Stream.{is_overlong, is_empty_line, lines_after, without_leading, before_empty, Item}
 pub use Rattle.portal_frame.specs.Stream.{only, closes_after, later_close, asks_close, up_to}

@@ -4,7 +4,7 @@ use Rattle.portal_frame.proofs.Base.{take, drop, refl, sym, ap, ◌∙◌, arith
 use Rattle.portal_frame.proofs.Base.{eqb-true, common_steps, take-append-drop, length-append, IsTrue, nat_lt, nat_le}
 use Rattle.portal_frame.proofs.Base.{RequestHead, IsRequestHead, HasNoRequest, print_request, LineEnd, lf, crlf}
 use Rattle.portal_frame.proofs.Base.{print_blank, print_version, is_token_byte, is_uri_byte, IsField, RequestOverflows}
-use Rattle.portal_frame.proofs.Base.{body_length, bad_head, Whole, Faulty, asked_of, fields_of, Opens, is_blank}
+use Rattle.portal_frame.proofs.Base.{body_length, Whole, Faulty, asked_of, fields_of, Opens, is_blank}
 use Rattle.portal_frame.proofs.Base.{append-nil, min, le-leb, cases_lt, take-append-le, drop-append-le, drop-drop}
 use Rattle.portal_frame.proofs.Base.{length-take-le, length-take, length-map, take_all, All-cons, All-nil, ReadsRequest}
 use Rattle.portal_frame.proofs.Base.{ReadsRequest-append, print_request-append, Takes, HasNoHead, IsHead, IsRequestAt}
@@ -14,6 +14,8 @@ use Rattle.std.proofs.lemmas.Bool.{and_parts, cases_Bool, or_cases}
 use Rattle.std.specs.Char.{encode_utf8}
 use Rattle.httparse.specs.declared.spans.HeaderSpan.{HeaderSpan}
 use Rattle.httparse.specs.declared.spans.RequestSpans.{RequestSpans}
+use Rattle.portal_frame.specs.Stream.{refusal_of_fault}
+use Rattle.portal_frame.specs.declared.types.FramingFault.TheVariants.{BadHead}
 
 pub Takes-append : (bytes more : List ℕ) (h : RequestHead) (rest : List ℕ) → Takes bytes h rest
     → Takes (bytes ++ more) h (rest ++ more)
@@ -108,7 +110,7 @@ never_blank bytes overflows blank =
     omega (arith, over)
 
 -- no head can come: the stream is refused, however it goes on
-pub opens_never : (bytes more : List ℕ) → RequestOverflows 32 bytes → Opens (bytes ++ more) (Faulty bad_head false)
+pub opens_never : (bytes more : List ℕ) → RequestOverflows 32 bytes → Opens (bytes ++ more) (Faulty (refusal_of_fault BadHead) false)
 opens_never bytes more overflows = inr (
   none_ever bytes more overflows,
   elim (cases_Bool (is_blank (bytes ++ more))) [
@@ -119,7 +121,7 @@ opens_never bytes more overflows = inr (
 
 -- the longest head is passed, and none stands there
 pub opens_full : (bytes more : List ℕ) → HasNoHead (bytes ++ more) → head_limit ≤ length bytes
-    → Opens (bytes ++ more) (Faulty bad_head false)
+    → Opens (bytes ++ more) (Faulty (refusal_of_fault BadHead) false)
 opens_full bytes more none full =
     let long : nat_lt (length (bytes ++ more)) head_limit ≡ false = rw (length-append bytes more) (grind (arith, common_steps, full)) in
     inr (none, elim (cases_Bool (is_blank (bytes ++ more))) [ inl blank ↦ rw (blank, long) | inr other ↦ rw other ])

@@ -3,13 +3,15 @@ use Rattle.portal_frame.proofs.Base.{◌≡◌, ℕ, ◌+◌, ◌<◌, ◌≤◌
 use Rattle.portal_frame.proofs.Base.{ap, ◌∙◌, subst, arith, rules, append_assoc, zero-add, if◌then◌else◌, ◌==◌, IsTrue}
 use Rattle.portal_frame.proofs.Base.{RequestHead, IsRequestHead, print_request, print_blank, print_end, print_version}
 use Rattle.portal_frame.proofs.Base.{print_section, LineEnd, crlf, lf, Field, IsField, is_token_byte, is_uri_byte}
-use Rattle.portal_frame.proofs.Base.{RequestOverflows, Opens, Faulty, bad_head, Leading, Fresh, Inside, lines_from}
+use Rattle.portal_frame.proofs.Base.{RequestOverflows, Opens, Faulty, Leading, Fresh, Inside, lines_from}
 use Rattle.portal_frame.proofs.Base.{header_lines, All, flat_map, AllByRecursion, leb-true, All-head, All-tail}
 use Rattle.portal_frame.proofs.Base.{print_field, AllPass, is_value_byte, step, stops, counts, is_overlong}
 use Rattle.std.proofs.lemmas.Bool.{ne_eqb}
 use Rattle.portal_frame.proofs.Heads.{opens_never}
 use Rattle.portal_frame.specs.declared.counting.At.{At}
 use Rattle.portal_frame.proofs.HeadLines.{counted_is}
+use Rattle.portal_frame.specs.Stream.{refusal_of_fault}
+use Rattle.portal_frame.specs.declared.types.FramingFault.TheVariants.{BadHead}
 
 pub lines-append : (at : At) (xs ys : List ℕ) → lines_from at xs ≤ lines_from at (xs ++ ys)
 lines-append at [] ys = omega arith
@@ -147,5 +149,5 @@ overlong bytes long more h rest reads =
     let same : lines_from Leading (bytes ++ more) ≡ 1 + length h.fields = ap (lines_from Leading) reads.1 ∙ most in
     omega (arith, long, counted_is bytes, lines-append Leading bytes more, same)
 
-pub opens_overlong : (bytes more : List ℕ) → is_overlong bytes ≡ true → Opens (bytes ++ more) (Faulty bad_head false)
+pub opens_overlong : (bytes more : List ℕ) → is_overlong bytes ≡ true → Opens (bytes ++ more) (Faulty (refusal_of_fault BadHead) false)
 opens_overlong bytes more long = opens_never bytes more (overlong bytes (leb-true 34 (length (header_lines bytes)) long))

@@ -44,10 +44,9 @@ only [] = []
 only (value ∷ []) = value
 only (value ∷ other ∷ values) = []
 
--- there is a value
-abbrev pub has_any : List (List ℕ) → Bool
-has_any [] = false
-has_any (value ∷ values) = true
+abbrev pub is_empty : {X : Type 0} → List X → Bool
+is_empty [] = true
+is_empty (x ∷ xs) = false
 
 -- bad values of Host: none in HTTP/1.1, or more than one
 abbrev pub has_bad_host : ℕ → List (List ℕ) → Bool
@@ -68,26 +67,18 @@ up_to end (b ∷ bytes) = if b == end then [] else b ∷ up_to end bytes
 abbrev pub path_of : List ℕ → List ℕ
 path_of target = up_to 63 target
 
-abbrev pub is_nothing : List ℕ → Bool
-is_nothing [] = true
-is_nothing (b ∷ bytes) = false
-
 -- the word `close` in any case, with blanks and tabs around it
 abbrev pub is_close : List ℕ → Bool
-is_close part = same_name (take 5 (skip_ows part)) (codes "close") && is_nothing (skip_ows (drop 5 (skip_ows part)))
+is_close part = same_name (take 5 (skip_ows part)) (codes "close") && is_empty (skip_ows (drop 5 (skip_ows part)))
 
--- the value up to its first comma
-abbrev pub before_comma : List ℕ → List ℕ
-before_comma value = up_to 44 value
-
--- some part after a comma is `close`
+-- some part after a comma (44) is `close`
 abbrev pub later_close : List ℕ → Bool
 later_close [] = false
-later_close (b ∷ bytes) = (b == 44 && is_close (before_comma bytes)) || later_close bytes
+later_close (b ∷ bytes) = (b == 44 && is_close (up_to 44 bytes)) || later_close bytes
 
 -- some part of the value, cut at commas, is `close`
 abbrev pub has_close : List ℕ → Bool
-has_close value = is_close (before_comma value) || later_close value
+has_close value = is_close (up_to 44 value) || later_close value
 
 -- some value of Connection asks to close
 abbrev pub asks_close : List (List ℕ) → Bool
@@ -156,12 +147,6 @@ refusal_of_fault CodedBody = plain_refusal 501 (codes "coded_body")
 refusal_of_fault BadLength = plain_refusal 400 (codes "bad_length")
 refusal_of_fault TooLarge = plain_refusal 413 (codes "too_large")
 
-abbrev pub bad_head : RefusalContent
-bad_head = refusal_of_fault BadHead
-
-abbrev pub bad_length : RefusalContent
-bad_length = refusal_of_fault BadLength
-
 -- the body length by the values of Content-Length, at most 1,048,576 bytes
 abbrev pub length_of : List (List ℕ) → Result ℕ FramingFault
 length_of [] = Ok 0
@@ -175,8 +160,8 @@ length_of (value ∷ other ∷ values) = Err BadLength
 abbrev pub body_length : ℕ → List (List ℕ × List ℕ) → Result ℕ FramingFault
 body_length minor lines =
     if has_bad_host minor (values_of (codes "host") lines) then Err BadHost
-    else (if has_any (values_of (codes "transfer-encoding") lines) then Err CodedBody
-    else length_of (values_of (codes "content-length") lines))
+    else (if is_empty (values_of (codes "transfer-encoding") lines) then length_of (values_of (codes "content-length") lines)
+    else Err CodedBody)
 
 -- the bytes begin with this head, which is within the limits
 pub record Takes (bytes : List ℕ) (h : RequestHead) (rest : List ℕ) : Type 0 where
@@ -218,7 +203,7 @@ abbrev pub after_lines : RequestHead → Result ℕ FramingFault → List ℕ �
 after_lines h (Err why) rest = Faulty (refusal_of_fault why) (is_head h.method)
 after_lines h (Ok n) rest =
     if nat_le n (length rest) then Whole (asked_of h (take n rest)) (drop n rest)
-    else Faulty bad_length (is_head h.method)
+    else Faulty (refusal_of_fault BadLength) (is_head h.method)
 
 abbrev pub item_of : RequestHead → List ℕ → Item
 item_of h rest = after_lines h (body_length h.minor (fields_of h)) rest
@@ -231,7 +216,7 @@ is_blank (b ∷ c ∷ bytes) = if b == 10 then is_blank (c ∷ bytes) else (b ==
 
 -- the item of a stream without a head at its front
 abbrev pub headless : List ℕ → Item
-headless bytes = if is_blank bytes && nat_lt (length bytes) head_limit then Over else Faulty bad_head false
+headless bytes = if is_blank bytes && nat_lt (length bytes) head_limit then Over else Faulty (refusal_of_fault BadHead) false
 
 -- a complete rest of a stream begins with this item
 abbrev pub Opens : List ℕ → Item → Type 0

@@ -11,7 +11,7 @@ use Rattle.portal_rules.specs.declared.view.View.{View as Sight}
 use Rattle.portal_rules.specs.declared.view.View.TheVariants.{Nobody, Office, Lecturer, Student}
 use Rattle.portal_rules.specs.declared.decision.Sheet.{Sheet}
 use Rattle.portal_rules.specs.declared.decision.Sheet.TheVariants as sheet
-use Rattle.portal_rules.specs.Bodies.{dictionary, texts, count, catalogue_body, projects_body, students_body}
+use Rattle.portal_rules.specs.Bodies.{dictionary, texts, count, fault_body, catalogue_body, projects_body, students_body}
 use Rattle.portal_rules.specs.Bodies.{applicants_body, placed_body, project_body, phase_body, student_me, lecturer_me}
 use Rattle.portal_rules.specs.Bodies.{office_me, roll_body, status_body, allocation_body, filled_body, csv_text}
 use Rattle.portal_rules.specs.Bodies.{result_text}
@@ -58,7 +58,7 @@ refuses answer = record { reply = answer; act = Nothing }
 
 -- a refusal whose body is only an error word
 abbrev pub by_word : ℕ → List ℕ → Answer
-by_word status word = answered status (dictionary ((codes "error", string word) ∷ []))
+by_word status word = answered status (fault_body word None)
 
 abbrev pub no_caller : Decision
 no_caller = refuses (by_word 403 (codes "no_caller"))
@@ -122,9 +122,7 @@ is_open_to_rolls First phase = not (is_from_ranking phase)
 is_open_to_rolls Second phase = false
 
 abbrev pub row_fault : ℕ → List ℕ → Option ℕ → Answer
-row_fault status word None = by_word status word
-row_fault status word (Some row) =
-    answered status (dictionary ((codes "error", string word) ∷ (codes "row", count row) ∷ []))
+row_fault status word row = answered status (fault_body word row)
 
 -- if no row is new, there is nothing to do
 abbrev pub added : {X : Type 0} → (List X → Change) → Taken X → Decision

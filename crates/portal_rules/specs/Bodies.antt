@@ -34,6 +34,11 @@ abbrev pub texts_or_null : Option (List (List ℕ)) → Data
 texts_or_null None = null
 texts_or_null (Some ks) = texts ks
 
+-- the body of a refusal: the error word, and the number of a row, if there is one
+abbrev pub fault_body : List ℕ → Option ℕ → Data
+fault_body word None = dictionary ((codes "error", string word) ∷ [])
+fault_body word (Some row) = dictionary ((codes "error", string word) ∷ (codes "row", count row) ∷ [])
+
 abbrev pub listing : Listing → Data
 listing l =
     dictionary ((codes "capacity", count l.capacity)
@@ -43,30 +48,27 @@ listing l =
 abbrev pub person : Person → Data
 person p = dictionary ((codes "key", string p.key) ∷ (codes "name", string p.name) ∷ [])
 
+abbrev pub projects : List Data → Data
+projects ds = dictionary ((codes "projects", several ds) ∷ [])
+
 abbrev pub catalogue_body : List Listing → Data
-catalogue_body ls = dictionary ((codes "projects", several (map listing ls)) ∷ [])
+catalogue_body ls = projects (map listing ls)
 
 abbrev pub projects_body : List Key → Data
-projects_body ks = dictionary ((codes "projects", texts ks) ∷ [])
+projects_body ks = projects (map string ks)
 
 abbrev pub students_body : Option (List Key) → Data
 students_body o = dictionary ((codes "students", texts_or_null o) ∷ [])
 
+-- projects, each with its applicants, or with the students placed there
+
 abbrev pub applicants_body : List (Key × List Person) → Data
-applicants_body ps =
-    dictionary ((
-      codes "projects",
-      several (map (λ p.
-          dictionary ((codes "applicants", several (map person p.1)) ∷ (codes "id", string p.0) ∷ [])) ps),
-    ) ∷ [])
+applicants_body ps = projects (map (λ p. dictionary (
+    (codes "applicants", several (map person p.1)) ∷ (codes "id", string p.0) ∷ [])) ps)
 
 abbrev pub placed_body : List (Key × List Person) → Data
-placed_body ps =
-    dictionary ((
-      codes "projects",
-      several (map (λ p.
-          dictionary ((codes "id", string p.0) ∷ (codes "students", several (map person p.1)) ∷ [])) ps),
-    ) ∷ [])
+placed_body ps = projects (map (λ p. dictionary (
+    (codes "id", string p.0) ∷ (codes "students", several (map person p.1)) ∷ [])) ps)
 
 abbrev pub project_body : Option Key → Data
 project_body o = dictionary ((codes "project", text_or_null o) ∷ [])

@@ -12,7 +12,7 @@ use Rattle.portal_rules.specs.declared.decision.Change.TheVariants as change
 use Rattle.portal_rules.specs.declared.decision.Act as done
 use Rattle.portal_rules.specs.declared.decision.Act.TheVariants as act
 use Rattle.portal_rules.specs.declared.decision.Decision as taken
-use Rattle.portal_rules.specs.World.{World, Change, Choices, Ranks, Lecturers, Projects, Students, To, Placements, Fill}
+use Rattle.portal_rules.specs.World.{Change, Choices, Ranks, Lecturers, Projects, Students, To, Placements, Fill}
 use Rattle.portal_rules.specs.World.{SecondRound}
 use Rattle.portal_rules.specs.Calls.{AbstractCall}
 use Rattle.portal_rules.specs.Answer.{Answer, Said, Json, Csv, Plain, Unavailable, Act, Nothing, Apply, Publish, Render}

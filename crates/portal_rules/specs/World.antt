@@ -1,7 +1,7 @@
 -- The world, which is all that the portal stores, and its changes. Rows are in the order of keys.
 use Rattle.portal_rules.specs.Base.{list_any, filter_map, find, Phase, Setup, Choosing, Ranking, Published, Round}
 use Rattle.portal_rules.specs.Base.{First, Second}
-use Rattle.std.specs.Prelude.{ℕ, ◌-◌, nat_lt, Bool, true, false, not, ◌&&◌, if◌then◌else◌, List, [], map, filter}
+use Rattle.std.specs.Prelude.{ℕ, ◌-◌, nat_lt, Bool, true, false, not, ◌&&◌, ◌||◌, if◌then◌else◌, List, [], map, filter}
 use Rattle.std.specs.Prelude.{count_by, codes, Option, Some, None, is_none, option_map}
 pub use Rattle.portal_rules.specs.declared.rows.LecturerRow.{LecturerRow}
 pub use Rattle.portal_rules.specs.declared.rows.ProjectRow.{ProjectRow}
@@ -79,9 +79,7 @@ is_published _ = false
 
 -- the students' lists are closed
 abbrev pub is_from_ranking : Phase → Bool
-is_from_ranking Ranking = true
-is_from_ranking Published = true
-is_from_ranking _ = false
+is_from_ranking phase = is_ranking phase || is_published phase
 
 abbrev pub phase_word : Phase → List ℕ
 phase_word Setup = codes "setup"

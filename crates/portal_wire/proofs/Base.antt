@@ -19,7 +19,7 @@ pub use Rattle.matchit.specs.Seek.{step, own, or_else, has_slash, first}
 pub use Rattle.portal_rules.specs.Run.{Request}
 pub use Rattle.portal_frame.specs.Stream.{RequestContent, Item, Opens, Faulty, Over, Whole, RefusalContent, asked_of}
 pub use Rattle.portal_frame.specs.Stream.{after_lines}
-pub use Rattle.portal_frame.specs.Stream.{body_length, fields_of, bad_length, bad_head, is_head}
+pub use Rattle.portal_frame.specs.Stream.{body_length, fields_of, is_head}
 pub use Rattle.portal_wire.specs.Conversation.{End, Ends, Last, Leads, Refused, Rest, closes_at, More, request_of, Shut}
 pub use Rattle.portal_wire.specs.Conversation.{reply_text, Closed, Limit}
 pub use Rattle.portal_wire.specs.Wish.{answer_to, method_of, look_up, members_len, member_among, phase_of, empty_object}

@@ -5,11 +5,13 @@ use Rattle.portal_wire.proofs.Base.{Item, Whole}
 use Rattle.portal_wire.proofs.Base.{Faulty, Over, Opens, answer_to, reply_text, request_of, closes_at, Rest, More, Shut}
 use Rattle.portal_wire.proofs.Base.{Leads, Ends, Last, End, Refused, inl, inr, take, append_assoc, Ok, Err, nat_le}
 use Rattle.portal_wire.proofs.Base.{take-append-drop, length-append, asked_of, after_lines, body_length, fields_of}
-use Rattle.portal_wire.proofs.Base.{bad_length, bad_head, is_head}
+use Rattle.portal_wire.proofs.Base.{is_head}
 use Rattle.std.proofs.Math.Seq.{drop-append_seam}
 use Rattle.std.proofs.lemmas.Bool.{both_ways, or_right}
 use Rattle.httparse.specs.Grammar.{RequestHead, print_request}
 use Rattle.portal_wire.specs.inner.Calls.{last_for}
+use Rattle.portal_frame.specs.Stream.{refusal_of_fault}
+use Rattle.portal_frame.specs.declared.types.FramingFault.TheVariants.{BadHead, BadLength}
 
 -- something stands at the front of each rest of the bytes
 abbrev pub Fronts : List ℕ → Type 0
@@ -20,7 +22,7 @@ Ended left bytes = (rs : List Request) × (end : Last) × (closing : List ℕ) �
     × Ends rest end closing
 
 after_body : (h : RequestHead) (n : ℕ) (rest : List ℕ) (a : RequestContent) (after : List ℕ) (b : Bool)
-    → Whole a after ≡ (if b then Whole (asked_of h (take n rest)) (drop n rest) else Faulty bad_length (is_head h.method))
+    → Whole a after ≡ (if b then Whole (asked_of h (take n rest)) (drop n rest) else Faulty (refusal_of_fault BadLength) (is_head h.method))
     → after ≡ drop n rest
 after_body h n rest a after true e = cc
 after_body h n rest a after false e = absurd (cc)
@@ -32,7 +34,7 @@ after_head h (Err why) rest a after e = absurd (cc)
 after_head h (Ok n) rest a after e = (n, after_body h n rest a after (nat_le n (length rest)) e)
 
 pub not_headless : (a : RequestContent) (after : List ℕ) (b : Bool)
-    → Whole a after ≡ (if b then Over else Faulty bad_head false)
+    → Whole a after ≡ (if b then Over else Faulty (refusal_of_fault BadHead) false)
     → ⊥
 not_headless a after true e = cc
 not_headless a after false e = cc

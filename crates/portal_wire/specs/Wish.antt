@@ -16,7 +16,7 @@ use Rattle.portal_wire.specs.declared.routes.Method.{Method}
 use Rattle.portal_wire.specs.declared.routes.Method.TheVariants.{Get, Put, Post, Other}
 use Rattle.portal_wire.specs.declared.routes.Route.{Route}
 use Rattle.portal_wire.specs.declared.routes.Route.TheVariants as route
-use Rattle.portal_rules.specs.Bodies.{dictionary, count}
+use Rattle.portal_rules.specs.Bodies.{fault_body}
 use Rattle.portal_rules.specs.Answer.{Answer, Json}
 use Rattle.portal_rules.specs.Run.{unavailable, Wish, Calls, NoCall}
 use Rattle.portal_frame.specs.Stream.{RefusalContent, plain_refusal, RequestContent}
@@ -163,11 +163,6 @@ roll_full_reply = plain_refusal 422 (codes "roll_full")
 
 abbrev pub no_memory : RefusalContent
 no_memory = plain_refusal 503 (codes "unavailable")
-
--- the body of a refusal
-abbrev pub fault_body : List ℕ → Option ℕ → Data
-fault_body word None = dictionary ((codes "error", string word) ∷ [])
-fault_body word (Some row) = dictionary ((codes "error", string word) ∷ (codes "row", count row) ∷ [])
 
 -- the reply to a refusal
 abbrev pub answer_to : RefusalContent → Answer

@@ -5,7 +5,8 @@ ghost use Rattle.serde_json.specs.View.{view};
 ghost use Rattle.portal_rules.specs.Answer.{HasWholeNumbers};
 ghost use Rattle.portal_rules.specs.Meaning.{reply_model, body_model};
 ghost use Rattle.portal_frame.specs.Stream.{refusal_content};
-ghost use Rattle.portal_wire.specs.Wish.{answer_to, fault_body};
+ghost use Rattle.portal_rules.specs.Bodies.{fault_body};
+ghost use Rattle.portal_wire.specs.Wish.{answer_to};
 ghost use Rattle.portal_wire.specs.Conversation.{reply_text, phrase_of, type_of, body_bytes};
 ghost use Rattle.portal_wire.specs.Conversation.{reply_lines, common_lines, allow_line, close_line};
 

@@ -1,6 +1,6 @@
 -- The numbers of the texts on a list.
 use Rattle.spa_rows.proofs.Base.{◌≡◌, inl, inr, ℕ, ◌+◌, ◌<◌, ◌↔◌, List, length, get_or, All, Contains, sym, ◌∙◌, ap}
-use Rattle.spa_rows.proofs.Base.{subst, arith, cases_lt, get_or-take, length-take, get_or_default, Text, IsEarlierKey}
+use Rattle.spa_rows.proofs.Base.{subst, arith, cases_lt, get_or-take, length-take, Text, IsEarlierKey}
 use Rattle.spa_rows.proofs.Base.{IsKeyOf, NamesNone, Repeats, HasNumber, HaveNumbers, Differ, AreListNumbers, AllZip}
 use Rattle.spa_rows.proofs.Base.{AllZip-long, Vec, Global, [], map, Option, Bool, true, false, IsTrue, IsAnyAnswer, eqb}
 use Rattle.spa_rows.proofs.Base.{eqb-true, eq-eqb, false≢true, refl, ⊤, IsLeastOf, BadAt, Rows, HasNoneBefore}

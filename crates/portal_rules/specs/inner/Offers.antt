@@ -1,5 +1,5 @@
 -- A catalogue of rows alone.
-use Rattle.std.specs.Prelude.{List, map, Option, option_map}
+use Rattle.std.specs.Prelude.{List, Option, option_map}
 use Rattle.std.specs.List.{filter_map, find}
 use Rattle.portal_rules.specs.Words.{Key, equals}
 use Rattle.portal_rules.specs.View.{listing_with}

@@ -1,4 +1,4 @@
-use Rattle.spa_rows.proofs.Base.{◌≡◌, ◌<◌, ◌↔◌, ◌++◌, IsTrue, All, drop, length, length-append, length-drop}
+use Rattle.spa_rows.proofs.Base.{◌<◌, ◌↔◌, ◌++◌, IsTrue, All, drop, length, length-append, length-drop}
 use Rattle.spa_rows.proofs.Base.{length-take, sym, arith, Differ, Repeats}
 use Rattle.spa_rows.proofs.LeastRow.{least_step, least_all}
 use Rattle.spa_rows.proofs.Lists.{zip_at}
