@@ -51,7 +51,7 @@ sized h n rest (Err x) short e a after is = absurd (cc)
 
 pub none_whole : (bytes : List ℕ) (ended : Bool) → Framed bytes ended frame.Need → NoneWhole bytes
 none_whole bytes ended (on, inl waits) a after (inl (h, rest, takes, e)) = waits.none h rest takes
-none_whole bytes ended (on, inl waits) a after (inr (nothing, e)) = not_headless a after _ e
+none_whole bytes ended (on, inl waits) a after (inr (nothing, e)) = not_headless a after _ _ e
 none_whole bytes ended (on, inr (h, rest, n, takes, size, short)) a after (inl (k, other, took, e)) =
     let same = request_unique bytes h k rest other takes.reads took.reads in
     sized h n rest (body_length h.minor (fields_of h)) short size a after

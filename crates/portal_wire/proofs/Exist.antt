@@ -10,8 +10,7 @@ use Rattle.std.proofs.Math.Seq.{drop-append_seam}
 use Rattle.std.proofs.lemmas.Bool.{both_ways, or_right}
 use Rattle.httparse.specs.Grammar.{RequestHead, print_request}
 use Rattle.portal_wire.specs.inner.Calls.{last_for}
-use Rattle.portal_frame.specs.Stream.{refusal_of_fault}
-use Rattle.portal_frame.specs.declared.types.FramingFault.TheVariants.{BadHead, BadLength}
+use Rattle.portal_frame.specs.Stream.{RefusalContent}
 
 -- something stands at the front of each rest of the bytes
 abbrev pub Fronts : List ℕ → Type 0
@@ -21,23 +20,23 @@ abbrev pub Ended : ℕ → List ℕ → Type 0
 Ended left bytes = (rs : List Request) × (end : Last) × (closing : List ℕ) × (rest : Rest) × Leads left bytes rs rest
     × Ends rest end closing
 
-after_body : (h : RequestHead) (n : ℕ) (rest : List ℕ) (a : RequestContent) (after : List ℕ) (b : Bool)
-    → Whole a after ≡ (if b then Whole (asked_of h (take n rest)) (drop n rest) else Faulty (refusal_of_fault BadLength) (is_head h.method))
+after_body : (h : RequestHead) (n : ℕ) (rest : List ℕ) (a : RequestContent) (after : List ℕ) (why : RefusalContent) (b : Bool)
+    → Whole a after ≡ (if b then Whole (asked_of h (take n rest)) (drop n rest) else Faulty why (is_head h.method))
     → after ≡ drop n rest
-after_body h n rest a after true e = cc
-after_body h n rest a after false e = absurd (cc)
+after_body h n rest a after why true e = cc
+after_body h n rest a after why false e = absurd (cc)
 
 after_head : (h : RequestHead) (r : _) (rest : List ℕ) (a : RequestContent) (after : List ℕ)
     → Whole a after ≡ after_lines h r rest
     → (n : ℕ) × (after ≡ drop n rest)
 after_head h (Err why) rest a after e = absurd (cc)
-after_head h (Ok n) rest a after e = (n, after_body h n rest a after (nat_le n (length rest)) e)
+after_head h (Ok n) rest a after e = (n, after_body h n rest a after _ (nat_le n (length rest)) e)
 
-pub not_headless : (a : RequestContent) (after : List ℕ) (b : Bool)
-    → Whole a after ≡ (if b then Over else Faulty (refusal_of_fault BadHead) false)
+pub not_headless : (a : RequestContent) (after : List ℕ) (why : RefusalContent) (b : Bool)
+    → Whole a after ≡ (if b then Over else Faulty why false)
     → ⊥
-not_headless a after true e = cc
-not_headless a after false e = cc
+not_headless a after why true e = cc
+not_headless a after why false e = cc
 
 -- what is left after a request is a rest of the bytes
 leaves : (bytes : List ℕ) (a : RequestContent) (after : List ℕ) → Opens bytes (Whole a after)
@@ -50,7 +49,7 @@ leaves bytes a after (inl (h, rest, t, e)) =
           ∙ (sym (append_assoc (print_request h) (take cut.0 rest) (drop cut.0 rest))
           ∙ ap (λ r. (print_request h ++ take cut.0 rest) ++ r) (sym cut.1))),
     )
-leaves bytes a after (inr (none, e)) = absurd (not_headless a after _ e)
+leaves bytes a after (inr (none, e)) = absurd (not_headless a after _ _ e)
 
 fronts_after : (bytes : List ℕ) (a : RequestContent) (after : List ℕ) → Opens bytes (Whole a after) → Fronts bytes
     → Fronts after
