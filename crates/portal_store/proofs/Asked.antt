@@ -1,4 +1,5 @@
 -- What `open` makes of what was read.
+use Rattle.portal_tables.specs.Reads.{NoFault}
 use Rattle.portal_store.proofs.Base.{List, [], ◌∷◌, pos, ◌≡◌, ◌≢◌, ◌⊎◌, inl, inr, ℕ, Bool, true, false, not, IsTrue, Ok}
 use Rattle.portal_store.proofs.Base.{Err, Result, map, length, filter, slice_index_or, refl, sym, ap, subst, ◌∙◌}
 use Rattle.portal_store.proofs.Base.{IsPermutation, Int, Row, column, Trees, Database, HasCleanDisk, IsUnchanged, State}
@@ -60,13 +61,13 @@ of_judged fault (inl is) = subst IsOfRows (sym is) (λ no. no)
 of_judged fault (inr is) = subst IsOfRows (sym is) tt
 
 -- an error that is handed on as a refusal
-pub reads_said : {round : Round} {On : State → Type 0} {Right : Database → Type 0} {U D V : Type 0} {T : Database → Result U D
+pub reads_said : {round : Round} {On : State → Type 0} {Right : Database → Type 0} {U D V : Type 0} {IsOf : D → Type 0} {T : Database → Result U D
     → Type 0} {Told : Database → Result V OpenFault → Type 0} {e : D} {r : Result V OpenFault} {Said : OpenFault → Type 0} {a b : State}
     → IsErrAnd r Said
-    → Reading round On Right T (Err e) a b → (HasRound round a.now.schema → Right a.now → T a.now (Err e) → (f : OpenFault) → Said f
-    → Told a.now (Err f)) → Reading round On Right Told r a b
+    → Reading round On Right IsOf T (Err e) a b → (HasRound round a.now.schema → Right a.now → T a.now (Err e) → (f : OpenFault) → Said f
+    → Told a.now (Err f)) → Reading round On Right NoFault Told r a b
 reads_said {r = Ok v} is h so = absurd is
-reads_said {r = Err f} is h so = reads_as h (λ no. no) (λ own right told. so own right told f is)
+reads_said {r = Err f} is h so = reads_as (λ its. absurd its) h (λ no. no) (λ own right told. so own right told f is)
 
 pub blames_more : (fault : OpenFault) (of : ℕ) (A B : Type 0) (db : Trees) → (B → A) → IsTrueOfTables fault of A db
     → IsTrueOfTables fault of B db
@@ -233,10 +234,10 @@ module _
   }
 
 -- what a read tells of the tables that a look before it found
-pub told_before : {V E : Type 0} {Right : Database → Type 0} {Told : Database → Result V E → Type 0} (r : Result V E) (a b c : State)
+pub told_before : {V E : Type 0} {IsOf : E → Type 0} {Right : Database → Type 0} {Told : Database → Result V E → Type 0} (r : Result V E) (a b c : State)
     (P : Database → Type 0)
     → IsCommitted a → OnlyLooks a b
-    → Reading First Anyhow Right Told r b c → HasCleanDisk c → HasFirstSchema a.now.schema → (IsTrue a.is_open → Right a.now)
+    → Reading First Anyhow Right IsOf Told r b c → HasCleanDisk c → HasFirstSchema a.now.schema → (IsTrue a.is_open → Right a.now)
     → ((v : V) → Told a.now (Ok v) → P a.now) → OnOk r (P a.now)
 told_before {Right = Right} {Told = Told} (Ok v) a b c P settled looks reads clean first right told =
     let stays = looks.stays settled (clean_before b c _ reads.crash clean) (reads.same clean tt).0.was_open in
@@ -246,10 +247,10 @@ told_before {Right = Right} {Told = Told} (Ok v) a b c P settled looks reads cle
 told_before (Err e) a b c P settled looks reads clean first right told = tt
 
 -- the same, of a fault too, if the connection was open between them
-pub judged_before : {V : Type 0} {Right : Database → Type 0} {Told : Database → Result V OpenFault → Type 0} (r : Result V OpenFault)
+pub judged_before : {V : Type 0} {IsOf : OpenFault → Type 0} {Right : Database → Type 0} {Told : Database → Result V OpenFault → Type 0} (r : Result V OpenFault)
     (a b c : State) (P : Database → Type 0)
     → IsCommitted a → OnlyLooks a b → IsTrue b.is_open
-    → Reading First Anyhow Right Told r b c → HasCleanDisk c → HasFirstSchema a.now.schema → (IsTrue a.is_open → Right a.now)
+    → Reading First Anyhow Right IsOf Told r b c → HasCleanDisk c → HasFirstSchema a.now.schema → (IsTrue a.is_open → Right a.now)
     → ((v : V) → Told a.now (Ok v) → P a.now) → ((f : OpenFault) → Told a.now (Err f) → f ≡ Damaged → P a.now → ⊥) → Judges r (P a.now)
 judged_before {Right = Right} {Told = Told} r a b c P settled looks on reads clean first right good bad =
     let stays = looks.stays settled (clean_before b c _ reads.crash clean) on in

@@ -122,7 +122,7 @@ pub use Rattle.portal_tables.specs.inner.Putting.{HasPut, PutsList, RanksSecond,
 pub use Rattle.portal_tables.specs.inner.Putting.{HasRanked}
 pub use Rattle.portal_tables.specs.Reads.{GivesOrFails, Anyhow, Reading, IsCommitted, IsUnchangedOrUndone}
 pub use Rattle.portal_tables.specs.Reads.{OnlyLooks}
-pub use Rattle.portal_tables.specs.Reads.{Reads, HasRound}
+pub use Rattle.portal_tables.specs.Reads.{ReadsOr, HasRound, NoFault, IsStoreFault}
 pub use Rattle.portal_tables.specs.inner.Rolls.{RollsRise, by_key, lecturer_columns, lecturers_shown, projects_shown}
 pub use Rattle.portal_tables.specs.inner.Rolls.{roll_columns, students_shown}
 pub use Rattle.portal_tables.specs.inner.RowChanges.{Assigns, MovesTo, pair_new, assigned_by}

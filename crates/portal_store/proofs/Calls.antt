@@ -5,7 +5,7 @@ use Rattle.portal_store.proofs.Base.{Good, HasFirstSchema, IsCurrentSchema, IsFi
 use Rattle.portal_store.proofs.Base.{version, Creates, IsFresh, has_names, Commits, IsAfter, LeavesOnly, IsCommitted}
 use Rattle.portal_store.proofs.Base.{OnlyLooks, HasGoodFirst, IsCleanStore, StoreState, world_of, OpenFault}
 use Rattle.portal_store.proofs.Base.{HasVersion, IsUpgradedFrom, LeavesUpgraded, IsTrueOfTables, IsTrueOfOpening, IsKept, Admits}
-use Rattle.portal_store.proofs.Base.{[], survives_weaker, Ok, Second, Reads, GivesOrFails, HasEntries, IsSoundIfOpen}
+use Rattle.portal_store.proofs.Base.{[], survives_weaker, Ok, Second, ReadsOr, NoFault, GivesOrFails, HasEntries, IsSoundIfOpen}
 use Rattle.portal_store.proofs.Base.{SaysNothing, State}
 use Rattle.portal_list.specs.Rows.{AllEntries}
 use Rattle.portal_tables.proofs.Runs.{survives_same}
@@ -100,7 +100,7 @@ module _
       (idle : old.in_transaction ≡ false)
       (looks : OnlyLooks (state g old) (state g new))
       (entries : AllEntries)
-      (reads : IsTrue own → Reads Second g (IsSoundIfOpen g old)
+      (reads : IsTrue own → ReadsOr NoFault Second g (IsSoundIfOpen g old)
       (GivesOrFails (λ db e. Admits db.trees × HasEntries e (world_of db.trees)) (λ db (fault : OpenFault). IsTrueOfOpening fault db.trees))
       (Ok entries) old new) where
     found : IsTrue own → HasCleanDisk (state g new)

@@ -278,8 +278,9 @@ module _
     (dirty : (state g new).is_clean ≡ false → (state g new).is_open ≡ false)
     {x : Result V E}
     {Right : Database → Type 0}
+    {IsOf : E → Type 0}
     {Told : Database → Result V E → Type 0}
-    (reads : Reading Second Anyhow Right Told x (state g old) (state g new)) where
+    (reads : Reading Second Anyhow Right IsOf Told x (state g old) (state g new)) where
   shut : IsTrue (state g new).is_open → HasCleanDisk (state g new)
   shut = clean_if_open (state g new).is_clean (state g new).is_open dirty
 

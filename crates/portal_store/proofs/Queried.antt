@@ -1,4 +1,5 @@
 -- From what queries show of one caller to what the world says.
+use Rattle.portal_tables.proofs.InTurn.{its_own}
 use Rattle.portal_store.proofs.Base.{◌≡◌, Option, option_map, List, [], ◌∷◌, refl, sym, ap, ◌∙◌, find, Row, column}
 use Rattle.portal_store.proofs.Base.{bytes, Trees, Database, Listing, Key, equals, Lecturer, Student, Phase, catalogue}
 use Rattle.portal_store.proofs.Base.{lecturer_with, student_with, all_weaker, Round, First, Second, lecturer_tree}
@@ -8,7 +9,7 @@ use Rattle.portal_store.proofs.Base.{IsLecturerRow, IsStudentRow, has_text_of, l
 use Rattle.portal_store.proofs.Base.{student_rows_formed, student_sees, as_list, found, Anyhow, IfOk-weaker, Reading}
 use Rattle.portal_store.proofs.Base.{RemembersIn, Result, State, TableFault, reads_as, reads_first}
 use Rattle.portal_store.specs.declared.reading.view_cache.ViewCache.{ViewCache}
-use Rattle.portal_tables.specs.Reads.{Always, Gives}
+use Rattle.portal_tables.specs.Reads.{Always, Gives, IsStoreFault}
 use Rattle.portal_store.proofs.Loaded.{lecturers_by_key, students_by_key}
 
 -- a row of a roll, and as it is shown, stand for one lecturer or student
@@ -33,11 +34,11 @@ module _ {round : Round} {cache : ViewCache} {r : Result (Option Row) TableFault
     (code : Key) {Shown : Database → Option Row → Type 0} where
   pub lecturer_found : ((o : Option Row) → Shown a.now o
       → ListsBy (1 ∷ []) (has_text 3 code) lecturer_columns (a.now.trees lecturer_tree) (as_list o))
-      → Reading First Anyhow Always (Gives Shown) r a b
-      → Reading round Anyhow (RemembersIn round cache)
+      → Reading First Anyhow Always IsStoreFault (Gives Shown) r a b
+      → Reading round Anyhow (RemembersIn round cache) IsStoreFault
       (Gives (λ db o. option_map (lecturer_from round db.trees) o ≡ lecturer_with (world_in round db.trees) code)) r a b
   unfolding world_in
-  lecturer_found lists h = reads_as (reads_first h) (λ no. no) (λ own right told. IfOk-weaker r _ _ (λ o shown.
+  lecturer_found lists h = reads_as (its_own _ r) (reads_first h) (λ no. no) (λ own right told. IfOk-weaker r _ _ (λ o shown.
       found (1 ∷ []) (has_text 3 code) lecturer_columns (lecturer_stored round a.now.trees) (lecturer_from round a.now.trees)
       (λ (l : Lecturer). equals l.row.code code) (lecturer_is round a.now.trees) (a.now.trees lecturer_tree) (as_list o)
       (all_weaker IsLecturerRow (λ r. has_text 3 code r ≡ equals (bytes (column r 3)) code) (lecturer_agrees code)
@@ -46,11 +47,11 @@ module _ {round : Round} {cache : ViewCache} {r : Result (Option Row) TableFault
 
   pub student_found : ((o : Option Row) → Shown a.now o
       → ListsBy (1 ∷ []) (has_text 3 code) roll_columns (a.now.trees student_tree) (as_list o))
-      → Reading First Anyhow Always (Gives Shown) r a b
-      → Reading round Anyhow (RemembersIn round cache)
+      → Reading First Anyhow Always IsStoreFault (Gives Shown) r a b
+      → Reading round Anyhow (RemembersIn round cache) IsStoreFault
       (Gives (λ db o. option_map (student_from round db.trees) o ≡ student_with (world_in round db.trees) code)) r a b
   unfolding world_in
-  student_found lists h = reads_as (reads_first h) (λ no. no) (λ own right told. IfOk-weaker r _ _ (λ o shown.
+  student_found lists h = reads_as (its_own _ r) (reads_first h) (λ no. no) (λ own right told. IfOk-weaker r _ _ (λ o shown.
       found (1 ∷ []) (has_text 3 code) roll_columns (student_stored round a.now.trees) (student_from round a.now.trees)
       (λ (s : Student). equals s.row.code code) (student_is round a.now.trees) (a.now.trees student_tree) (as_list o)
       (all_weaker IsStudentRow (λ r. has_text 3 code r ≡ equals (bytes (column r 3)) code) (student_agrees code) (a.now.trees student_tree)

@@ -4,7 +4,7 @@ use Rattle.portal_store.specs.Base.{is_setup, Change, changed, Good, tree_of, po
 use Rattle.portal_store.specs.Base.{second_tree, later_trees, own_trees, version, HasFirstSchema, IsCurrentSchema}
 use Rattle.portal_store.specs.Base.{RowNumbersDiffer, row_key, second_row, HasOffice, number_of_phase, of_key, IsWhole}
 use Rattle.portal_store.specs.Base.{choice_table, ranking_table}
-use Rattle.std.specs.Prelude.{◌≡◌, ◌⊎◌, ℕ, pos, ◌+◌, ◌-◌, ◌^◌, ◌≤◌, min, Bool, false, List, [], ◌∷◌, IsTrue}
+use Rattle.std.specs.Prelude.{◌≡◌, ◌⊎◌, ℕ, pos, ◌+◌, ◌-◌, ◌^◌, ◌≤◌, min, Bool, false, [], ◌∷◌, IsTrue}
 use Rattle.std.specs.List.{AllByRecursion}
 use Rattle.sqlite.specs.State.{State, HasCleanDisk}
 use Rattle.sqlite.specs.Store.{Ghosts}

@@ -33,6 +33,7 @@ pub(crate) fn create_fault_of(fault: TableFault) -> CreateFault
 pub(crate) fn rows_fault_of(fault: RowsFault) -> TableFault
     ensures damaged { (result ≡ TableFault.Damaged) ↔ (fault ≡ RowsFault.NotGood) }
     ensures memory { (result ≡ TableFault.Memory) ↔ (fault ≡ RowsFault.Memory) }
+    ensures store { result ≢ TableFault.Store }
 {
     match fault {
         RowsFault::NotGood => TableFault::Damaged,

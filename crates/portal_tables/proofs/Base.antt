@@ -31,7 +31,7 @@ pub use Rattle.std.specs.Cmp.Lexicographic.{texts_ties}
 pub use Rattle.std.specs.List.{cons_option, list_all}
 pub use Rattle.std.specs.Ordering.{is_gt, match_ordering, ordering_reverse, ordering_then}
 pub use Rattle.std.specs.Prelude.{IfSome, if◌then◌else◌, is_some, option_copied, ◌&&◌, ◌++◌, ◌+◌, ◌<◌, ◌==◌, ◌||◌, ◌∷◌}
-pub use Rattle.std.specs.Prelude.{◌≡◌, ◌≢◌, ◌≤◌, ◌⊎◌, ◌<ℤ◌, MatchResult, ◌↔◌, fold}
+pub use Rattle.std.specs.Prelude.{◌≡◌, ◌≢◌, ◌≤◌, ◌⊎◌, ◌<ℤ◌, MatchResult, ◌↔◌, fold, IfErr, IsSome}
 pub use Rattle.std.specs.Result.{IsErr, IsErrAnd}
 pub use Rattle.std.specs.declared.cmp.Ordering.{Ordering}
 pub use Rattle.std.specs.declared.cmp.Ordering.TheVariants.{Equal, Greater, Less}
@@ -52,7 +52,7 @@ pub use Rattle.portal_tables.specs.Tables.{first_trees, first_version, later_tre
 pub use Rattle.portal_tables.specs.Tables.{portal_tree, project_tree, ranked2_tree, ranking2_tree, ranking_tree}
 pub use Rattle.portal_tables.specs.Tables.{second_texts, second_tree, student_tree, version, names}
 pub use Rattle.portal_tables.specs.declared.fault.TableFault.{TableFault}
-pub use Rattle.portal_tables.specs.declared.fault.TableFault.TheVariants.{Damaged, Memory}
+pub use Rattle.portal_tables.specs.declared.fault.TableFault.TheVariants.{Damaged, Memory, Store}
 pub use Rattle.portal_tables.specs.declared.sql.insert.lists.NewPlace.{NewPlace}
 pub use Rattle.portal_tables.specs.declared.sql.list_table.Lists.{Lists}
 pub use Rattle.portal_tables.specs.declared.sql.list_table.Lists.TheVariants.{Choices, Rankings}
@@ -91,7 +91,7 @@ pub use Rattle.portal_tables.specs.inner.Queries.{columns_of, roll_tree, round_a
 pub use Rattle.portal_tables.specs.inner.Queries.{table_tree}
 pub use Rattle.portal_tables.specs.QueryTexts.{given, query_text}
 pub use Rattle.portal_tables.specs.Reads.{IfOpen, Always, Blames, IsCommitted, IsUnchangedOrUndone, OnlyLooks}
-pub use Rattle.portal_tables.specs.Reads.{Reading, Anyhow, Gives, HasRound}
+pub use Rattle.portal_tables.specs.Reads.{Reading, Anyhow, Gives, HasRound, HasReason, IsOtherError, IsStoreFault, NoFault}
 pub use Rattle.portal_tables.specs.inner.Rising.{is_above, rises}
 pub use Rattle.portal_tables.specs.inner.Rolls.{by_key}
 pub use Rattle.portal_tables.specs.inner.RowChanges.{IsOffice, IsSecond, Adds, AddsBy, Assigned, Assigns, portal_cells}

@@ -9,11 +9,16 @@ use Rattle.portal_tables.proofs.Base.{survives_then, given_begin, unchanged, unc
 use Rattle.portal_tables.proofs.Base.{OnOk, OnErr, option_copied, Bor, AllByRecursion, ShowsAs, FindsAny, IsRefused}
 use Rattle.portal_tables.proofs.Base.{IfErr-at_err, IfOk-from_err, IsErr, IsErrAnd, TableFault, Damaged, Vec, Global}
 use Rattle.portal_tables.proofs.Base.{is_some}
-use Rattle.sqlite.specs.Given.{HasBegun, Returns}
+use Rattle.portal_tables.proofs.Base.{◌≤◌, arith, Store, IsNotRun, FailsToShow, IsOtherError, rolled_back_since, IfErr}
+use Rattle.portal_tables.specs.inner.Decoding.{Stops}
+use Rattle.sqlite.specs.Effect.{RefusesToRead}
+use Rattle.sqlite.specs.Given.{HasBegun, Returns, FailsToAdvance}
 use Rattle.sqlite.specs.Tree.{Trees}
 use Rattle.sqlite_resolve.specs.declared.error.CompileError.{CompileError}
 unfoldable use Rattle.sqlite.specs.State.{CommitsShowing}
-use Rattle.sqlite.specs.State.{Fails}
+use Rattle.sqlite.specs.State.{Fails, HasCause, IsNoStatement}
+use Rattle.sqlite_trees.specs.declared.error.StoreError.{StoreError}
+use Rattle.sqlite_trees.specs.declared.error.StoreError.TheVariants.{OutOfMemory, Io, Corrupt, Full, Broken, Unstorable}
 use Rattle.sqlite_trees.specs.declared.store.Store.{Ghosts}
 use Rattle.portal_tables.proofs.InTurn.{clean_before, then_leaves}
 use Rattle.portal_tables.proofs.Queries.{failed_leaves, on_err, on_ok}
@@ -59,6 +64,44 @@ shown_before sql params a b c rows plain m h =
       ),
     )
 
+-- and what fails then would have failed there
+failed_before : (sql : List ℕ) (params : Row) (a b c : State) (e : Error)
+    → IsPlainIfAny (understood a.now.schema sql) → IsUnchanged a b → a.faults ≤ b.faults → b.step_limit ≡ a.step_limit
+    → FailsToQuery sql params b c e → FailsToQuery sql params a c e
+unfolding FailsToQuery IsNotRun
+failed_before sql params a b c e plain m counts limit (inl (inl none)) =
+    inl (inl (subst (λ (d : Database). IsNoStatement (record b { now = d }) sql params e) m.0.now_is none.0, unchanged_then a b c m none.1))
+failed_before sql params a b c e plain m counts limit (inl (inr fails)) =
+    inl (inr (fails.0, fails.1, cause fails.0 fails.2, rolled_back_since a b c m counts fails.3, fails.4))
+  where
+    cause : (kind : StoreError) → HasCause b c ⊥ kind → HasCause a c ⊥ kind
+    cause OutOfMemory why = tt
+    cause Io why = omega (arith, why, counts)
+    cause Corrupt why = omega (arith, why, counts)
+    cause Full why = omega (arith, why, counts)
+    cause Broken why = absurd (let on = rw why at m.0.is_open in cc)
+    cause Unstorable why = why
+failed_before sql params a b c e plain m counts limit (inr h) =
+    let there = subst (λ (d : Database). IsPlainIfAny (understood d.schema sql)) (sym m.0.now_is) plain in
+    let none = (subst IsPlainIfAny h.1.is there).0 in
+    let full = timed params h.0.formats h.1.now in
+    let it = subst (FailsToShow b c sql h.0 full e) none h.2 in
+    inr (
+      h.0,
+      record {
+        is = subst (λ (d : Database). understood d.schema sql ≡ Ok h.0) m.0.now_is h.1.is;
+        whole = h.1.whole;
+        given = h.1.given;
+        now = h.1.now;
+      },
+      subst (FailsToShow a c sql h.0 full e) (sym none) (
+        it.0,
+        subst (λ (d : Database). IsSourceOf (reads_listing d.schema sql) d it.0) m.0.now_is it.1,
+        subst (λ l. RefusesToRead l h.0.command it.0 full e) limit it.2,
+        unchanged_then a b c m it.3,
+      ),
+    )
+
 -- a query that does not begin
 module _ {S X : Type 0} (g : Ghosts S) (sql : List ℕ) (params : Row) (old new : Held S) (r : Result X Error) (e : Error) (is : r ≡ Err e)
     (refused : OnErr r (IsRefused g sql params old r new)) where
@@ -73,6 +116,9 @@ module _ {S X : Type 0} (g : Ghosts S) (sql : List ℕ) (params : Row) (old new 
   refused_survives : Survives (state g old) (state g new) (λ _. IsPlainIfAny (understood old.schema sql) → ⊥)
   refused_survives = survives_weaker (state g old) (state g new) _ _
       (λ _ db made plain. never_commits sql params (state g old) db plain made) it.survives
+
+  pub stops_refused : IsOtherError e → HasCleanDisk (state g new) → Stops sql params (state g old) (state g new)
+  stops_refused other clean = (e, other, IfErr-at_err (FailsToQuery sql params (state g old) (state g new)) is (it.err clean))
 
   pub leaves_refused : {V E : Type 0} (a : Result V E) → IsErr a → Leaves g sql a old new
   leaves_refused a failed = record {
@@ -134,6 +180,18 @@ module _ {S : Type 0} (g : Ghosts S) (sql : List ℕ) (old mid : Held S) {Given 
       given = λ plain clean. more plain clean (way.same plain (before clean)) (way.given plain (before clean));
     }
 
+    -- it stopped with this error, after what had been given
+    pub stops_after : (params : Row) (given : List Row) → IsPlainIfAny (understood old.schema sql) → HasCleanDisk (state g new)
+        → HasGiven g sql params mid given → (e : Error) → IsOtherError e
+        → (HasCleanDisk (state g new) → FailsToAdvance g mid new e) → Stops sql params (state g old) (state g new)
+    stops_after params given plain clean has e other fails =
+        let same = way.same plain (before clean) in (
+          e,
+          other,
+          failed_before sql params (state g old) (state g mid) (state g new) e plain same way.survives.counts way.survives.limit
+              (fails clean sql params given has),
+        )
+
     -- it stops with an error
     pub leaves_stopped : {V E : Type 0} (r : Result V E) → IsErr r → (e : Error)
         → (HasCleanDisk (state g new) → Fails (state g mid) (state g new) ⊥ e ⊎ IsUnchanged (state g mid) (state g new))
@@ -158,28 +216,32 @@ module _ {S T : Type 0} (g : Ghosts S) (decode : Row → T) (is_fine : Row → T
   -- an error that does not blame the rows
   pub broken : (r : Result (Vec T Global) TableFault) (Told : TableFault → Type 0) → IsErrAnd r Told
       → ((fault : TableFault) → Told fault → fault ≡ Damaged → ⊥) → Leaves g sql r old new
+      → (IsPlainIfAny (understood old.schema sql) → HasCleanDisk (state g new) → (fault : TableFault) → Told fault → fault ≡ Store
+      → Stops sql params (state g old) (state g new))
       → ReadsEach g decode is_fine sql params r old new
-  broken (Ok v) Told failed other leaves = absurd failed
-  broken (Err fault) Told failed other leaves = record {
+  broken (Ok v) Told failed other leaves stops = absurd failed
+  broken (Err fault) Told failed other leaves stops = record {
     leaves = leaves;
     rows = λ plain clean. tt;
     undamaged = λ is fine. other fault failed (same_fault is);
     refused = λ plain clean is. absurd (other fault failed (same_fault is));
+    stopped = λ plain clean is. stops plain clean fault failed (same_fault is);
   }
 
   -- a row that is not decoded
   pub refused_row : (r : Result (Vec T Global) TableFault) (fault : TableFault) → IsErrAnd r (λ f. f ≡ fault)
-      → (row : Row) → (fault ≡ Damaged → is_fine row → ⊥)
+      → (row : Row) → (fault ≡ Damaged → is_fine row → ⊥) → (fault ≡ Store → ⊥)
       → IsUnderWay g sql old new ((before : List Row) × Begins sql params (state g new) (before ++ row ∷ []))
       → ReadsEach g decode is_fine sql params r old new
-  refused_row (Ok v) fault failed row blames way = absurd failed
-  refused_row (Err f) fault failed row blames way = record {
+  refused_row (Ok v) fault failed row blames never way = absurd failed
+  refused_row (Err f) fault failed row blames never way = record {
     leaves = leaves_way g sql old new way (Err f);
     rows = λ plain clean. tt;
     undamaged = λ is fine. blames (sym failed ∙ same_fault is) (fine row);
     refused = λ plain clean is.
         let read = way.given plain clean in
         record { before = read.0; row = row; begins = read.1; same = way.same plain clean; refused = blames (sym failed ∙ same_fault is) };
+    stopped = λ plain clean is. absurd (never (sym failed ∙ same_fault is));
   }
 
   -- all rows are decoded
@@ -191,6 +253,7 @@ module _ {S T : Type 0} (g : Ghosts S) (decode : Row → T) (is_fine : Row → T
     rows = way.given;
     undamaged = λ is. absurd (cc);
     refused = λ plain clean is. absurd (cc);
+    stopped = λ plain clean is. absurd (cc);
   }
 
 -- whether a row is found, by a step to the first
@@ -221,13 +284,18 @@ module _ {S : Type 0} (g : Ghosts S) (sql : List ℕ) (params : Row) (old mid ne
         none = λ plain clean no. none_found found plain (way.same plain (before clean)) (way.given plain (before clean)) (on clean)
             (sym told ∙ no);
         some = λ plain clean yes. one_found found (way.given plain (before clean)) (on clean) (sym told ∙ yes);
+        stopped = λ plain clean. tt;
       }
 
-  pub not_found : (r : Result Bool Error) → IsErr r → Leaves g sql r old new → FindsRow g sql params r old new
-  not_found r failed leaves = record {
+  pub not_found : (r : Result Bool Error) → IsErr r → Leaves g sql r old new
+      → (IsPlainIfAny (understood old.schema sql) → HasCleanDisk (state g new)
+      → IfErr r (λ e. IsOtherError e → Stops sql params (state g old) (state g new)))
+      → FindsRow g sql params r old new
+  not_found r failed leaves stops = record {
     leaves = leaves;
     none = λ plain clean. IfOk-from_err r _ failed;
     some = λ plain clean. IfOk-from_err r _ failed;
+    stopped = stops;
   }
 
 module _ {S T : Type 0} (g : Ghosts S) (decode : Row → T) (sql : List ℕ) (params : Row) (old mid new : Held S) (all : List T)

@@ -6,7 +6,9 @@ use Rattle.portal_tables.proofs.Base.{sym, ap, ap₂, subst, ◌∙◌, Database
 use Rattle.portal_tables.proofs.Base.{survives_then, unchanged, unchanged_then, rolled_back_since, Round, First, Second}
 use Rattle.portal_tables.proofs.Base.{HasRound, IsTrue, OnOk, OnErr, IsCommitted, OnlyLooks, Stays, IsUnchangedOrUndone}
 use Rattle.portal_tables.proofs.Base.{on_ok_weaker, on_err_weaker, Reading, Anyhow, IfOpen, TableFault, Damaged}
-use Rattle.portal_tables.proofs.Base.{MatchResult, IsErrAnd, Memory, Blames}
+use Rattle.portal_tables.proofs.Base.{MatchResult, IsErrAnd, Memory, Blames, IfErr, IfErr-weaker, IsSome, cases_Bool}
+use Rattle.portal_tables.proofs.Base.{HasReason, IsStoreFault, IsOtherError, Store, Error, ◌↔◌, NoFault}
+use Rattle.portal_tables.specs.inner.Base.{SqliteFailure, OutOfMemory}
 use Rattle.portal_tables.proofs.Owned.{current_own}
 use Rattle.portal_tables.proofs.Queries.{on_ok, on_err}
 
@@ -15,14 +17,60 @@ pub then_leaves : (a b c : State) → a.faults ≤ b.faults → IsUnchanged a b 
 then_leaves a b c counts p (inl q) = inl (unchanged_then a b c p q)
 then_leaves a b c counts p (inr q) = inr (rolled_back_since a b c p counts q)
 
+-- a reason of the second of two calls is one of both
+pub reason_since : (a b c : State) (P : _) → Survives a b P → b.faults ≤ c.faults → HasCleanDisk b → HasReason b c
+    → HasReason a c
+reason_since a b c P h later clean (inl more) = inl (let first = h.counts in omega (arith, more, first))
+reason_since a b c P h later clean (inr (inl shut)) = elim (cases_Bool a.is_open) [
+  | inl on ↦ elim (h.closes clean on) [
+    | inl up ↦ absurd (let e = rw shut at up in cc)
+    | inr more ↦ inl (omega (arith, more, later))
+  ]
+  | inr off ↦ inr (inl off)
+]
+reason_since a b c P h later clean (inr (inr limit)) = inr (inr (subst IsSome h.limit limit))
+
+-- an error that is not the store's, and one that is if another was
+pub calm : {V E : Type 0} (IsStores : E → Type 0) (r : Result V E) → IfErr r (λ e. IsStores e → ⊥) → (Why : Type 0)
+    → IfErr r (λ e. IsStores e → Why)
+calm IsStores (Ok v) h Why = tt
+calm IsStores (Err e) h Why = λ its. absurd (h its)
+
+pub IsErrAnd-IfErr : {V E : Type 0} (r : Result V E) (P Q : E → Type 0) → IsErrAnd r P → ((e : E) → P e → Q e) → IfErr r Q
+IsErrAnd-IfErr (Ok v) P Q h so = tt
+IsErrAnd-IfErr (Err e) P Q h so = so e h
+
+pub IfErr-known : {V E : Type 0} (r : Result V E) (P : E → Type 0) → ((e : E) → r ≡ Err e → P e) → IfErr r P
+IfErr-known (Ok v) P so = tt
+IfErr-known (Err e) P so = so e refl
+
+-- a result has its own faults; one that is not the store's, by a clause; and what an error of `sqlite` becomes
+pub its_own : {V E : Type 0} (IsStores : E → Type 0) (r : Result V E) → IfErr r (λ e. IsStores e → IsErrAnd r IsStores)
+its_own IsStores (Ok v) = tt
+its_own IsStores (Err e) = λ its. its
+
+pub unsaid : {V E : Type 0} (P : E → Type 0) (r : Result V E) → IfErr r (λ e. NoFault e → P e)
+unsaid P (Ok v) = tt
+unsaid P (Err e) = λ none. absurd none
+
+pub not_stores : {V : Type 0} (r : Result V TableFault) → (r ≡ Err Store → ⊥) → IfErr r (λ fault. IsStoreFault fault → ⊥)
+not_stores (Ok v) never = tt
+not_stores (Err fault) never = λ its. never (ap Err its)
+
+pub converted : {V : Type 0} (r : Result V TableFault) (e : Error)
+    → IsErrAnd r (λ fault. ((fault ≡ Memory) ↔ (e ≡ SqliteFailure OutOfMemory)) × (fault ≡ Damaged → ⊥))
+    → IfErr r (λ fault. IsStoreFault fault → IsOtherError e)
+converted (Ok v) e gives = tt
+converted (Err fault) e gives = λ its none. let short = gives.0.1 none in absurd (cc)
+
 pub clean_before : (b c : State) (P : _) → Survives b c P → HasCleanDisk c → HasCleanDisk b
 clean_before b c P h clean = omega (arith, h.clean, clean)
 
-module _ {round : Round} {Right : Database → Type 0} {V E : Type 0} {Told : Database → Result V E → Type 0} where
+module _ {round : Round} {Right : Database → Type 0} {V E : Type 0} {IsStores : E → Type 0} {Told : Database → Result V E → Type 0} where
   -- no query is made
-  pub reads_self : {r : Result V E} {s : State} → (HasRound round s.now.schema → Right s.now → Told s.now r)
-      → Reading round IfOpen Right Told r s s
-  reads_self {r} {s} told = record {
+  pub reads_self : {r : Result V E} {s : State} → IfErr r (λ e. IsStores e → ⊥)
+      → (HasRound round s.now.schema → Right s.now → Told s.now r) → Reading round IfOpen Right IsStores Told r s s
+  reads_self {r} {s} other told = record {
     same = λ clean on. on_ok _ r (unchanged s on);
     err = λ clean on. on_err (IsUnchangedOrUndone s s) r (inl (unchanged s on));
     now = λ clean. on_ok _ r refl;
@@ -36,11 +84,13 @@ module _ {round : Round} {Right : Database → Type 0} {V E : Type 0} {Told : Da
       crash = λ clean db h. inl h;
     };
     told = λ own right clean. told own right;
+    reason = λ own clean. calm IsStores r other (HasReason s s);
   }
 
   module _ {r : Result V E} {a b : State} where
     -- a query is sure to be made, and perhaps none is
-    pub reads_open : {On : State → Type 0} → Reading round Anyhow Right Told r a b → Reading round On Right Told r a b
+    pub reads_open : {On : State → Type 0} → Reading round Anyhow Right IsStores Told r a b
+        → Reading round On Right IsStores Told r a b
     reads_open h = record {
       same = λ clean on. h.same clean tt;
       err = λ clean on. h.err clean tt;
@@ -48,13 +98,14 @@ module _ {round : Round} {Right : Database → Type 0} {V E : Type 0} {Told : Da
       mode = h.mode;
       crash = h.crash;
       told = h.told;
+      reason = h.reason;
     }
 
     -- of the tables of more rounds, and of a database of which more is known
     pub reads_of : {there : Round} {Known : Database → Type 0} {On : State → Type 0}
         → (HasRound there a.now.schema → HasRound round a.now.schema)
         → (HasRound there a.now.schema → Known a.now → Right a.now)
-        → Reading round On Right Told r a b → Reading there On Known Told r a b
+        → Reading round On Right IsStores Told r a b → Reading there On Known IsStores Told r a b
     reads_of wide right h = record {
       same = h.same;
       err = h.err;
@@ -62,24 +113,26 @@ module _ {round : Round} {Right : Database → Type 0} {V E : Type 0} {Told : Da
       mode = h.mode;
       crash = h.crash;
       told = λ own known. h.told (wide own) (right own known);
+      reason = λ own. h.reason (wide own);
     }
 
     -- of more rounds alone
     pub reads_wide : {there : Round} {On : State → Type 0} → (HasRound there a.now.schema → HasRound round a.now.schema)
-        → Reading round On Right Told r a b → Reading there On Right Told r a b
+        → Reading round On Right IsStores Told r a b → Reading there On Right IsStores Told r a b
     reads_wide wide h = reads_of wide (λ own right. right) h
 
-pub reads_both : {On : State → Type 0} {Right : Database → Type 0} {V E : Type 0} {Told : Database → Result V E
+pub reads_both : {On : State → Type 0} {Right : Database → Type 0} {V E : Type 0} {IsStores : E → Type 0} {Told : Database → Result V E
     → Type 0} {r : Result V E} {a b : State}
-    → Reading First On Right Told r a b → Reading Second On Right Told r a b
+    → Reading First On Right IsStores Told r a b → Reading Second On Right IsStores Told r a b
 reads_both {a = a} h = reads_wide (current_own a.now.schema) h
 
-module _ {round : Round} {On : State → Type 0} {Right : Database → Type 0} {U D : Type 0} {T : Database → Result U D → Type 0} where
-  -- the same read, where something else is made of its result: an error of each error
-  pub reads_as : {V E : Type 0} {Told : Database → Result V E → Type 0} {x : Result U D} {r : Result V E} {a b : State}
-      → Reading round On Right T x a b → (IsErr x → IsErr r)
-      → (HasRound round a.now.schema → Right a.now → T a.now x → Told a.now r) → Reading round On Right Told r a b
-  reads_as {x = Ok u} {r = Ok v} h fails so =
+module _ {round : Round} {On : State → Type 0} {Right : Database → Type 0} {U D : Type 0} {IsOf : D → Type 0} {T : Database → Result U D → Type 0} where
+  -- the same read, where something else is made of its result: an error of each error, and none of
+  -- the store of another one
+  pub reads_as : {V E : Type 0} {IsStores : E → Type 0} {Told : Database → Result V E → Type 0} {x : Result U D} {r : Result V E} {a b : State}
+      → IfErr r (λ e. IsStores e → IsErrAnd x IsOf) → Reading round On Right IsOf T x a b → (IsErr x → IsErr r)
+      → (HasRound round a.now.schema → Right a.now → T a.now x → Told a.now r) → Reading round On Right IsStores Told r a b
+  reads_as {x = Ok u} {r = Ok v} same h fails so =
       record {
         same = h.same;
         err = λ clean on. tt;
@@ -87,8 +140,9 @@ module _ {round : Round} {On : State → Type 0} {Right : Database → Type 0} {
         mode = h.mode;
         crash = h.crash;
         told = λ own right clean. so own right (h.told own right clean);
+        reason = λ own clean. tt;
       }
-  reads_as {x = Ok u} {r = Err e} h fails so =
+  reads_as {x = Ok u} {r = Err e} same h fails so =
       record {
         same = λ clean on. tt;
         err = λ clean on. inl (h.same clean on);
@@ -96,9 +150,10 @@ module _ {round : Round} {On : State → Type 0} {Right : Database → Type 0} {
         mode = h.mode;
         crash = h.crash;
         told = λ own right clean. so own right (h.told own right clean);
+        reason = λ own clean its. absurd (same its);
       }
-  reads_as {x = Err d} {r = Ok v} h fails so = let no = fails refl in absurd (cc)
-  reads_as {x = Err d} {r = Err e} h fails so =
+  reads_as {x = Err d} {r = Ok v} same h fails so = let no = fails refl in absurd (cc)
+  reads_as {x = Err d} {r = Err e} same h fails so =
       record {
         same = λ clean on. tt;
         err = h.err;
@@ -106,36 +161,39 @@ module _ {round : Round} {On : State → Type 0} {Right : Database → Type 0} {
         mode = h.mode;
         crash = h.crash;
         told = λ own right clean. so own right (h.told own right clean);
+        reason = λ own clean its. h.reason own clean (same its);
       }
 
-  -- what was answered is worked on
-  pub reads_more : {V E : Type 0} {Told : Database → Result V E → Type 0} {u : U} {r : Result V E} {a b : State}
-      → Reading round On Right T (Ok u) a b
-      → (HasRound round a.now.schema → Right a.now → T a.now (Ok u) → Told a.now r) → Reading round On Right Told r a b
-  reads_more h so = reads_as h (λ no. absurd (cc)) so
+  -- what was answered is worked on, and no fault of the store is made of it
+  pub reads_more : {V E : Type 0} {IsStores : E → Type 0} {Told : Database → Result V E → Type 0} {u : U} {r : Result V E} {a b : State}
+      → IfErr r (λ e. IsStores e → ⊥) → Reading round On Right IsOf T (Ok u) a b
+      → (HasRound round a.now.schema → Right a.now → T a.now (Ok u) → Told a.now r) → Reading round On Right IsStores Told r a b
+  reads_more {IsStores = IsStores} {r = r} other h so = reads_as (calm IsStores r other ⊥) h (λ no. absurd (cc)) so
 
   -- an error is handed on
   pub reads_handed : {V : Type 0} {Told : Database → Result V D → Type 0} {e : D} {r : Result V D} {a b : State}
-      → IsErrAnd r (λ f. f ≡ e) → Reading round On Right T (Err e) a b
-      → (HasRound round a.now.schema → Right a.now → T a.now (Err e) → Told a.now (Err e)) → Reading round On Right Told r a b
+      → IsErrAnd r (λ f. f ≡ e) → Reading round On Right IsOf T (Err e) a b
+      → (HasRound round a.now.schema → Right a.now → T a.now (Err e) → Told a.now (Err e)) → Reading round On Right IsOf Told r a b
   reads_handed {r = Ok v} is h so = absurd is
   reads_handed {Told = Told} {r = Err f} {a} {b} is h so =
-      subst (λ f. Reading round On Right Told (Err f) a b) (sym is) (reads_as h (λ no. no) so)
+      subst (λ f. Reading round On Right IsOf Told (Err f) a b) (sym is) (reads_as (λ its. its) h (λ no. no) so)
 
   -- there is not enough memory for what was answered
   pub reads_short : {V : Type 0} {Told : Database → Result V TableFault → Type 0} {u : U} {r : Result V TableFault} {a b : State}
-      → IsErrAnd r (λ f. f ≡ Memory) → Reading round On Right T (Ok u) a b
-      → (HasRound round a.now.schema → Right a.now → T a.now (Ok u) → Told a.now (Err Memory)) → Reading round On Right Told r a b
+      → IsErrAnd r (λ f. f ≡ Memory) → Reading round On Right IsOf T (Ok u) a b
+      → (HasRound round a.now.schema → Right a.now → T a.now (Ok u) → Told a.now (Err Memory))
+      → Reading round On Right IsStoreFault Told r a b
   reads_short {r = Ok v} is h so = absurd is
-  reads_short {Told = Told} {r = Err f} {a} {b} is h so = subst (λ f. Reading round On Right Told (Err f) a b) (sym is) (reads_more h so)
+  reads_short {Told = Told} {r = Err f} {a} {b} is h so =
+      subst (λ f. Reading round On Right IsStoreFault Told (Err f) a b) (sym is) (reads_more (λ its. absurd (cc)) h so)
 
   -- another read after one that answered, each of the same tables: of a database of which something
   -- is known by then, and of the same one
-  module _ {V E : Type 0} {N : Database → Result V E → Type 0} {u : U} {r : Result V E} {a b c : State} where
+  module _ {V E : Type 0} {IsStores : E → Type 0} {N : Database → Result V E → Type 0} {u : U} {r : Result V E} {a b c : State} where
     pub reads_then_of : {Known : Database → Type 0}
         → (HasRound round a.now.schema → (On a → IfOpen a) → Right a.now → T a.now (Ok u) → Known a.now)
-        → Reading round On Right T (Ok u) a b → Reading round IfOpen Known N r b c
-        → Reading round On Right (λ db r. T db (Ok u) × N db r) r a c
+        → Reading round On Right IsOf T (Ok u) a b → Reading round IfOpen Known IsStores N r b c
+        → Reading round On Right IsStores (λ db r. T db (Ok u) × N db r) r a c
     reads_then_of {Known} known p q =
         let before : HasCleanDisk c → HasCleanDisk b = clean_before b c _ q.crash in
         let middle : HasCleanDisk c → On a → IsUnchanged a b = λ clean on. p.same (before clean) on in
@@ -152,10 +210,14 @@ module _ {round : Round} {On : State → Type 0} {Right : Database → Type 0} {
                 subst (λ (d : Database). HasRound round d.schema → Known d → N d r) (p.now early)
                     (λ own known. q.told own known clean) own (known own (λ on. (p.same early on).0.was_open) right t),
               );
+          reason = λ own clean.
+              let early = before clean in
+              let there : HasRound round b.now.schema = subst (λ (d : Database). HasRound round d.schema) (sym (p.now early)) own in
+              IfErr-weaker r _ _ (λ e why its. reason_since a b c _ p.crash q.crash.counts early (why its)) (q.reason there clean);
         }
 
-    pub reads_then : Reading round On Right T (Ok u) a b → Reading round IfOpen Right N r b c
-        → Reading round On Right (λ db r. T db (Ok u) × N db r) r a c
+    pub reads_then : Reading round On Right IsOf T (Ok u) a b → Reading round IfOpen Right IsStores N r b c
+        → Reading round On Right IsStores (λ db r. T db (Ok u) × N db r) r a c
     reads_then p q = reads_then_of (λ own on right told. right) p q
 
 -- what at most undoes a transaction that is not there changes nothing
@@ -167,9 +229,9 @@ stays_left old new settled (inr undone) on =
     (first, was.0 ∙ sym (settled first), was.1)
 
 -- a read only looks, whatever it answers
-pub looks_by : {round : Round} {Right : Database → Type 0} {V E : Type 0} {Told : Database → Result V E → Type 0}
+pub looks_by : {round : Round} {Right : Database → Type 0} {V E : Type 0} {IsStores : E → Type 0} {Told : Database → Result V E → Type 0}
     (r : Result V E) {a b : State}
-    → Reading round Anyhow Right Told r a b → OnlyLooks a b
+    → Reading round Anyhow Right IsStores Told r a b → OnlyLooks a b
 looks_by r {a} {b} h = record {
   stays = λ settled clean on. stays_left a b settled (either r (h.same clean tt) (h.err clean tt)) on;
   mode = h.mode;

@@ -32,3 +32,4 @@ pub mod OneFound
 pub mod Assigning
 pub mod SecondRound
 pub mod SecondRows
+pub mod Reasons

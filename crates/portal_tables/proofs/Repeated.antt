@@ -1,7 +1,7 @@
 -- What a query shows or fails with, it would show or fail with again, and before a look as after it.
-use Rattle.portal_tables.proofs.Base.{◌≡◌, ◌⊎◌, inl, inr, ℕ, IsTrue, List, None, Ok, refl, sym, subst, subst₂, Row}
+use Rattle.portal_tables.proofs.Base.{◌≡◌, ◌⊎◌, inl, inr, ℕ, IsTrue, List, Ok, refl, sym, subst, subst₂, Row}
 use Rattle.portal_tables.proofs.Base.{Database, State, Shown, ShowsRows, FailsToQuery, FailsToShow, IsNotRun, Error}
-use Rattle.portal_tables.proofs.Base.{HasCleanDisk, IsUnchanged, understood, reads_listing, IsSourceOf, timed}
+use Rattle.portal_tables.proofs.Base.{HasCleanDisk, understood, reads_listing, IsSourceOf, timed}
 use Rattle.portal_tables.proofs.Base.{unchanged, IsPlainIfAny, query_text, given, IsCommitted, OnlyLooks}
 use Rattle.sqlite.specs.Effect.{RefusesToRead}
 use Rattle.sqlite.specs.State.{IsNoStatement}

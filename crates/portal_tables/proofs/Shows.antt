@@ -8,7 +8,10 @@ use Rattle.portal_tables.proofs.Base.{Choices, Rankings, Whole, LecturerByCode, 
 use Rattle.portal_tables.proofs.Base.{AllLists, ListOf, Choosers, Listed, ProjectsOf, First, SecondRankedBy}
 use Rattle.portal_tables.proofs.Base.{SecondPlaceOf, Numbers, Lecturers, OfRoll, OfLists, ListsBy, HasRound, selection}
 use Rattle.portal_tables.proofs.Base.{round_asked, query_text, given, on_ok_weaker, Reading, Anyhow}
-use Rattle.portal_tables.proofs.Base.{IsUnchangedOrUndone, Reads, Always}
+use Rattle.portal_tables.proofs.Base.{IsUnchangedOrUndone, Reads, Always, ◌&&◌, eqb, and_parts, cases_Bool, length, IfErr}
+use Rattle.portal_tables.proofs.Base.{HasReason, inl, inr}
+use Rattle.sqlite_typing.specs.Types.{accepts_program}
+use Rattle.std.proofs.lemmas.Bool.{eqb-true}
 use Rattle.sqlite.specs.Listing.{misses_table, if_select, is_select, listing_schema}
 use Rattle.sqlite_ast.specs.declared.Select as written_select
 use Rattle.sqlite_ast.specs.declared.Statement.{Statement}
@@ -53,44 +56,68 @@ tested (SecondRankedBy lecturer) = same_key 1 lecturer.now
 tested (SecondPlaceOf student) = same_key 1 student.now
 tested _ = refl
 
-abbrev program_of : Command → Option Program
+abbrev pub program_of : Command → Option Program
 program_of (Select p names) = Some p
 program_of _ = None
 
-abbrev asked : Query → Program
+abbrev pub asked : Query → Program
 asked q = record { lets = []; body = by_columns (selection q).tree (tests q) (map (λ at. col 1 at) (selection q).shown) (selection q).by }
 
+-- the text is one statement, and has these parameters
+abbrev pub Fits : List ℕ → Row → Result Compiled CompileError → Type 0
+Fits sql params (Ok c) = (length sql ≡ c.tail) × (length params ≡ length c.names)
+Fits sql params (Err e) = ⊥
+
 -- the text is such a query, which changes nothing and reads no list of the tables
-abbrev IsUnderstood : Query → Schema → Type 0
+abbrev pub IsUnderstood : Query → Schema → Type 0
 IsUnderstood q s = (program_of (command_of (understood s (query_text q))) ≡ Some (asked q)) × IsPlain (understood s (query_text q))
-    × (reads_listing s (query_text q) ≡ false)
+    × (reads_listing s (query_text q) ≡ false) × Fits (query_text q) (given q) (understood s (query_text q))
 
 -- the program of a text that is a plain query
 abbrev plain_query : {R F : Type 0} → Command → Option R → List F → Option Program
 plain_query (Select p names) None [] = Some p
 plain_query _ _ _ = None
 
-abbrev plain_of : Result Compiled CompileError → Option Program
-plain_of (Ok c) = plain_query c.command c.returning c.formats
-plain_of (Err e) = None
+abbrev do_fit : List ℕ → Row → Compiled → Bool
+do_fit sql params c = eqb (length sql) c.tail && eqb (length params) (length c.names)
+
+abbrev plain_of : List ℕ → Row → Result Compiled CompileError → Option Program
+plain_of sql params (Ok c) = if do_fit sql params c then plain_query c.command c.returning c.formats else None
+plain_of sql params (Err e) = None
 
 plain_parts : {R F : Type 0} (c : Command) (returning : Option R) (formats : List F) (p : Program)
     → plain_query c returning formats ≡ Some p → (program_of c ≡ Some p) × (returning ≡ None) × (formats ≡ [])
 plain_parts (Select p names) None [] q h = (h, refl, refl)
 plain_parts _ _ _ q h = absurd (cc)
 
--- what a text was understood as follows from one computation of its program
-parts : (r other : Result Compiled CompileError) (p : Program) → plain_of r ≡ Some p
-    → let u = if misses_table r then if_select other else r in (program_of (command_of u) ≡ Some p) × IsPlain u × (misses_table r ≡ false)
-parts (Ok c) other p h = let is = plain_parts c.command c.returning c.formats p h in (is.0, (is.1, is.2), refl)
-parts (Err e) other p h = absurd (cc)
+fitting : {P : Type 0} (sql : List ℕ) (params : Row) (c : Compiled) (plain : Option P) (p : P)
+    → (if do_fit sql params c then plain else None) ≡ Some p → (plain ≡ Some p) × Fits sql params (Ok c)
+fitting sql params c plain p h = elim (cases_Bool (do_fit sql params c)) [
+  | inl fits ↦
+      let both = and_parts (eqb (length sql) c.tail) _ fits in
+      (rw fits at h, (eqb-true (length sql) c.tail both.0, eqb-true (length params) (length c.names) both.1))
+  | inr other ↦ absurd (let none = rw other at h in cc)
+]
 
-understands : (q : Query) (s : Schema) → plain_of (compiled s (query_text q)) ≡ Some (asked q) → IsUnderstood q s
+-- what a text was understood as follows from one computation of its program
+parts : (sql : List ℕ) (params : Row) (r other : Result Compiled CompileError) (p : Program) → plain_of sql params r ≡ Some p
+    → let u = if misses_table r then if_select other else r in
+    (program_of (command_of u) ≡ Some p) × IsPlain u × (misses_table r ≡ false) × Fits sql params u
+parts sql params (Ok c) other p h =
+    let fit = fitting sql params c (plain_query c.command c.returning c.formats) p h in
+    let is = plain_parts c.command c.returning c.formats p fit.0 in
+    (is.0, (is.1, is.2), refl, fit.1)
+parts sql params (Err e) other p h = absurd (cc)
+
+understands : (q : Query) (s : Schema) → plain_of (query_text q) (given q) (compiled s (query_text q)) ≡ Some (asked q)
+    → IsUnderstood q s
 unfolding understood
-understands q s h = parts (compiled s (query_text q)) (compiled listing_schema (query_text q)) (asked q) h
+understands q s h =
+    parts (query_text q) (given q) (compiled s (query_text q)) (compiled listing_schema (query_text q)) (asked q) h
 
 -- each case computes; the last clause is checked for every query that has none of its own
-is : (q : Query) (o : Open) → plain_of (compiled (schema_with (round_asked q) o) (query_text q)) ≡ Some (asked q)
+is : (q : Query) (o : Open)
+    → plain_of (query_text q) (given q) (compiled (schema_with (round_asked q) o) (query_text q)) ≡ Some (asked q)
 unfolding everything
 is (Whole Lecturers) o = refl
 is (AllLists (Choices First)) o = refl
@@ -104,7 +131,21 @@ is (Numbers (OfLists (Choices First))) o = refl
 is (Numbers (OfLists (Rankings First))) o = refl
 is _ o = refl
 
-own_is_understood : (q : Query) (s : Schema) → HasRound (round_asked q) s → IsUnderstood q s
+-- its terms have types, as above
+pub is_typed : (q : Query) (o : Open) → accepts_program (schema_with (round_asked q) o) [] (asked q).body (given q) ≡ true
+is_typed (Whole Lecturers) o = refl
+is_typed (AllLists (Choices First)) o = refl
+is_typed (AllLists (Rankings First)) o = refl
+is_typed (ListOf (Choices First) owner) o = refl
+is_typed (ListOf (Rankings First) owner) o = refl
+is_typed (Choosers First project) o = refl
+is_typed (Listed First) o = refl
+is_typed (Numbers (OfRoll Lecturers)) o = refl
+is_typed (Numbers (OfLists (Choices First))) o = refl
+is_typed (Numbers (OfLists (Rankings First))) o = refl
+is_typed _ o = refl
+
+pub own_is_understood : (q : Query) (s : Schema) → HasRound (round_asked q) s → IsUnderstood q s
 own_is_understood q s own = let w = own_is (round_asked q) s own in subst (IsUnderstood q) (sym w.is) (understands q _ (is q w.o))
 
 -- a statement is a query alone, which reads no time
@@ -207,18 +248,20 @@ module _ (q : Query) (sql : List ℕ) (params : Row) (text : sql ≡ query_text 
       subst₂ (λ p show. ListsBy (selection q).by p show (old.now.trees (selection q).tree) rows) (tested q)
       (λ i r. columns_are (selection q).shown (given q) r i) lists
 
-  pub asks : {V E : Type 0} {Told : Database → Result V E → Type 0} (r : Result V E) (old new : State)
+  pub asks : {V E : Type 0} {IsStores : E → Type 0} {Told : Database → Result V E → Type 0} (r : Result V E) (old new : State)
       → (IsPlainIfAny (understood old.now.schema sql) → HasCleanDisk new → OnOk r (IsUnchanged old new))
       → (IsPlainIfAny (understood old.now.schema sql) → HasCleanDisk new → OnErr r (IsUnchangedOrUndone old new))
       → (old.in_transaction ≡ false → new.in_transaction ≡ false)
       → Survives old new (λ _. IsPlainIfAny (understood old.now.schema sql) → ⊥)
       → (HasRound (round_asked q) old.now.schema → HasCleanDisk new → Told old.now r)
-      → Reading (round_asked q) Anyhow Always Told r old new
-  asks r old new same err mode survives told = record {
+      → (HasRound (round_asked q) old.now.schema → HasCleanDisk new → IfErr r (λ e. IsStores e → HasReason old new))
+      → Reading (round_asked q) Anyhow Always IsStores Told r old new
+  asks r old new same err mode survives told reason = record {
     same = λ clean on. same (plain old.now.schema) clean;
     err = λ clean on. err (plain old.now.schema) clean;
     now = λ clean. on_ok_weaker r (λ u. u.0.now_is) (same (plain old.now.schema) clean);
     mode = mode;
     crash = survives_weaker old new _ _ (λ clean db no. no (plain old.now.schema)) survives;
     told = λ own right clean. told own clean;
+    reason = reason;
   }

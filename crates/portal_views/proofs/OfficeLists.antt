@@ -102,7 +102,7 @@ module _ (round : Round) (db : Database) (lists : HasWholeLists round db) (shown
       (ap not (lister (first_cell c)) ∙ not-not (is_empty (chosen table (first_cell c))))) students))
 
 -- a read of sound tables
-pub reads_whole : {round : Round} {On : State → Type 0} {V E : Type 0} {Told : Database → Result V E
+pub reads_whole : {round : Round} {On : State → Type 0} {V E : Type 0} {IsStores : E → Type 0} {Told : Database → Result V E
     → Type 0} {r : Result V E} {a b : State}
-    → Reading round On IsDatabase Told r a b → Reading round On (HasWholeLists round) Told r a b
+    → Reading round On IsDatabase IsStores Told r a b → Reading round On (HasWholeLists round) IsStores Told r a b
 reads_whole h = reads_of (λ own. own) (λ own lists. lists.tables.sound) h

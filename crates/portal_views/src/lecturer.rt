@@ -46,6 +46,7 @@ fn keys_listed(
 fn keys_of(alloc: Global, rows: &[Row]) -> Result<Vec<Key>, TableFault>
     ensures ok { IfOk result (λ v. v.items ≡ map first_cell rows.now) }
     ensures damaged { result ≡ Err TableFault.Damaged → AllByRecursion HasKeyForm rows.now → ⊥ }
+    ensures store { result ≡ Err TableFault.Store → ⊥ }
 {
     let mut keys = Vec::with_capacity(alloc, rows.len())?;
     for row in rows {

@@ -26,6 +26,7 @@ pub(crate) fn person_at(alloc: Global, row: &Row) -> Result<Person, TableFault>
     ensures ok { IfOk result (λ p. p
         ≡ record { key = first_cell row.now; name = bytes (column row.now 1) }) }
     ensures damaged { result ≡ Err TableFault.Damaged → IsNamed row.now → ⊥ }
+    ensures store { result ≡ Err TableFault.Store → ⊥ }
 {
     Ok(Person {
         key: key_at(alloc, row, 0)?,
@@ -60,6 +61,7 @@ impl FromCells for ApplicantLine {
 fn only_line(lines: Vec<ApplicantLine>) -> Result<ApplicantLine, TableFault>
     ensures ok { IfOk result (λ l. lines.items ≡ l ∷ []) }
     ensures damaged { result ≡ Err TableFault.Damaged → length lines.items ≡ 1 → ⊥ }
+    ensures store { result ≡ Err TableFault.Store → ⊥ }
 {
     match at_most_one(lines)? {
         Some(line) => Ok(line),

@@ -35,6 +35,7 @@ fn keys_not_among(
         && not (has (map first_cell others.now) (first_cell c))) students.now)) }
     ensures damaged { result ≡ Err TableFault.Damaged
         → AllByRecursion HasKeyForm students.now → ⊥ }
+    ensures store { result ≡ Err TableFault.Store → ⊥ }
 {
     let mut keys = Vec::new(alloc);
     for row in students {

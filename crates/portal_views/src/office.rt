@@ -43,6 +43,7 @@ fn office_view_from(
         → AllByRecursion (λ c. IsLecturer (shown_lecturer c)) rolls.now.lecturers.items
         → AllByRecursion (λ c. IsProject (shown_project c)) rolls.now.projects.items
         → AllByRecursion (λ c. IsStudent (shown_student c)) rolls.now.students.items → ⊥ }
+    ensures store { result ≡ Err TableFault.Store → ⊥ }
 {
     let parts = parts_of(alloc, rolls)?;
     Ok(OfficeView {

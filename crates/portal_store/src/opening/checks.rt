@@ -14,7 +14,7 @@ ghost use Rattle.portal_tables.specs.Tables.{HasFirstSchema};
 ghost use Rattle.portal_tables.specs.Rows.{RowNumbersDiffer};
 ghost use Rattle.portal_tables.specs.inner.Queries.{table_tree, table_round};
 ghost use Rattle.portal_tables.specs.Reads.{Always, GivesOrFails, Gives, IsCommitted};
-ghost use Rattle.portal_tables.specs.Reads.{OnlyLooks, Reads};
+ghost use Rattle.portal_tables.specs.Reads.{OnlyLooks, ReadsOr, NoFault};
 ghost use Rattle.portal_list.specs.Rows.{HasEntries, world_rows};
 ghost use Rattle.portal_store.specs.Kept.{HasGoodFirst};
 ghost use Rattle.portal_store.specs.inner.Keeping.{AllNumbersDiffer};
@@ -89,7 +89,7 @@ fn judge_office(rows: &[Row], version: u32) -> Result<(), OpenFault>
 
 /// Checks that `portal` has a row, and that it has this version.
 fn see_office<S: Alter>(conn: &mut Connection<S>, version: u32) -> Result<(), OpenFault>
-    ensures reads { Reads First S.Store Always
+    ensures reads { ReadsOr NoFault First S.Store Always
         (GivesOrFails (λ db _. HasVersion version db.trees)
         (λ db fault. IsTrueOfTables fault version (Unit {0}) db.trees))
         result conn.old conn.new }
@@ -116,7 +116,7 @@ pub(crate) fn see_first<S: Alter>(
     ensures version { IsCommitted (state S.Store conn.old) → HasFirstSchema conn.old.schema
         → HasCleanDisk (state S.Store conn.new)
         → OnOk result (HasVersion version (state S.Store conn.old).now.trees) }
-    ensures reads { IsTrue own → Reads First S.Store Always
+    ensures reads { IsTrue own → ReadsOr NoFault First S.Store Always
         (GivesOrFails (λ db _. HasVersion version db.trees)
         (λ db fault. IsTrueOfTables fault version (Unit {0}) db.trees))
         result conn.old conn.new }
@@ -146,7 +146,7 @@ pub(crate) fn see_row_numbers<S: Alter>(
     table: Table,
 ) -> Result<(), OpenFault>
     ensures refused { IfErr result SaysNothing }
-    ensures reads { Reads (table_round table) S.Store Always
+    ensures reads { ReadsOr NoFault (table_round table) S.Store Always
         (Gives (λ db _. RowNumbersDiffer (db.trees (table_tree table)))) result conn.old conn.new }
 {
     if row_numbers_differ(conn, table)? {
@@ -183,7 +183,7 @@ fn see_first_world<S: Alter>(
     version: u32,
 ) -> Result<Entries, OpenFault>
     ensures refused { IfErr result IsOfRows }
-    ensures reads { Reads First S.Store IsDatabase
+    ensures reads { ReadsOr NoFault First S.Store IsDatabase
         (GivesOrFails (λ db e. HasGoodFirst version db.trees
         × HasEntries e (world_in First db.trees))
         (λ db fault. SaysNot fault (HasGoodFirst version db.trees)))
@@ -196,7 +196,7 @@ fn see_first_world<S: Alter>(
 /// Checks that rowids are distinct in the first round's tables of many rows.
 pub(crate) fn see_first_numbers<S: Alter>(conn: &mut Connection<S>) -> Result<(), OpenFault>
     ensures refused { IfErr result SaysNothing }
-    ensures reads { Reads First S.Store Always
+    ensures reads { ReadsOr NoFault First S.Store Always
         (Gives (λ db _. AllNumbersDiffer early_trees db.trees)) result conn.old conn.new }
 {
     see_row_numbers(conn, Table::OfRoll(RollTable::Lecturers))?;
@@ -214,7 +214,7 @@ pub(crate) fn judge_first<S: Alter>(
     version: u32,
 ) -> Result<Entries, OpenFault>
     ensures refused { IfErr result IsOfRows }
-    ensures reads { Reads First S.Store (IsSoundIfOpen S.Store conn.old)
+    ensures reads { ReadsOr NoFault First S.Store (IsSoundIfOpen S.Store conn.old)
         (GivesOrFails (λ db e. AdmitsAs version db.trees × HasEntries e (world_in First db.trees))
         (λ db fault. SaysNot fault (HasGoodFirst version db.trees)))
         result conn.old conn.new }

@@ -10,7 +10,7 @@ ghost use Rattle.portal_rules.specs.declared.phase.Phase.TheVariants.{Published}
 ghost use Rattle.portal_tables.specs.Tables.{HasFirstSchema, version};
 ghost use Rattle.portal_tables.specs.inner.Queries.{round_asked};
 ghost use Rattle.portal_tables.specs.Reads.{Always, GivesOrFails, Gives, IsCommitted};
-ghost use Rattle.portal_tables.specs.Reads.{OnlyLooks, Reads};
+ghost use Rattle.portal_tables.specs.Reads.{OnlyLooks, ReadsOr, NoFault};
 ghost use Rattle.portal_list.specs.Rows.{HasEntries};
 ghost use Rattle.portal_store.specs.Kept.{HasSecond, HasGoodWorld, HasGoodWorldIn};
 ghost use Rattle.portal_store.specs.inner.Keeping.{AreEmpty};
@@ -39,7 +39,7 @@ use std::alloc::Global;
 /// Checks that a table of the second round is empty: a query of it returns no row.
 fn see_none<S: Alter>(conn: &mut Connection<S>, query: Query<'_>) -> Result<(), OpenFault>
     ensures refused { IfErr result IsOfRows }
-    ensures reads { Reads (round_asked query.entry) S.Store (λ _. ReadsAll query.entry)
+    ensures reads { ReadsOr NoFault (round_asked query.entry) S.Store (λ _. ReadsAll query.entry)
         (GivesOrFails (λ db _. queried_rows query.entry db.trees ≡ [])
         (λ db fault. SaysNot fault (queried_rows query.entry db.trees ≡ [])))
         result conn.old conn.new }
@@ -55,7 +55,7 @@ fn see_none<S: Alter>(conn: &mut Connection<S>, query: Query<'_>) -> Result<(), 
 /// Checks that a second round that is not open has no lists, rankings or placements.
 fn see_nothing<S: Alter>(conn: &mut Connection<S>) -> Result<(), OpenFault>
     ensures refused { IfErr result IsOfRows }
-    ensures reads { Reads Second S.Store Always
+    ensures reads { ReadsOr NoFault Second S.Store Always
         (GivesOrFails (λ db _. AreEmpty db.trees) (λ db fault. SaysNot fault (AreEmpty db.trees)))
         result conn.old conn.new }
 {
@@ -68,7 +68,7 @@ fn see_nothing<S: Alter>(conn: &mut Connection<S>) -> Result<(), OpenFault>
 /// Checks that the first round is published, as an open second round requires.
 fn see_published<S: Alter>(alloc: Global, conn: &mut Connection<S>) -> Result<(), OpenFault>
     ensures refused { IfErr result IsOfRows }
-    ensures reads { Reads First S.Store IsDatabase
+    ensures reads { ReadsOr NoFault First S.Store IsDatabase
         (GivesOrFails (λ db _. phase_in First db.trees ≡ Published)
         (λ db fault. SaysNot fault (HasGoodWorldIn Second db.trees)))
         result conn.old conn.new }
@@ -83,7 +83,7 @@ fn see_published<S: Alter>(alloc: Global, conn: &mut Connection<S>) -> Result<()
 /// is published.
 fn see_second<S: Alter>(alloc: Global, conn: &mut Connection<S>) -> Result<(), OpenFault>
     ensures refused { IfErr result IsOfRows }
-    ensures reads { Reads Second S.Store IsDatabase
+    ensures reads { ReadsOr NoFault Second S.Store IsDatabase
         (GivesOrFails (λ db _. HasSecond (round_in db.trees) db.trees)
         (λ db fault. SaysNot fault (HasGoodWorld db.trees)))
         result conn.old conn.new }
@@ -98,7 +98,7 @@ fn see_second<S: Alter>(alloc: Global, conn: &mut Connection<S>) -> Result<(), O
 /// Checks that rowids are distinct in the tables of many rows of both rounds.
 fn see_numbers<S: Alter>(conn: &mut Connection<S>) -> Result<(), OpenFault>
     ensures refused { IfErr result SaysNothing }
-    ensures reads { Reads Second S.Store Always (Gives (λ db _. NumbersDiffer db.trees))
+    ensures reads { ReadsOr NoFault Second S.Store Always (Gives (λ db _. NumbersDiffer db.trees))
         result conn.old conn.new }
 {
     see_first_numbers(conn)?;
@@ -111,7 +111,7 @@ fn see_numbers<S: Alter>(conn: &mut Connection<S>) -> Result<(), OpenFault>
 /// Loads the world of both rounds, checks that it is good, and returns its entries.
 fn see_world<S: Alter>(alloc: Global, conn: &mut Connection<S>) -> Result<Entries, OpenFault>
     ensures refused { IfErr result IsOfRows }
-    ensures reads { Reads Second S.Store IsDatabase
+    ensures reads { ReadsOr NoFault Second S.Store IsDatabase
         (GivesOrFails (λ db e. IsJudged db.trees × HasEntries e (world_of db.trees))
         (λ db fault. NumbersDiffer db.trees → SaysNot fault (HasGoodWorld db.trees)))
         result conn.old conn.new }
@@ -124,7 +124,7 @@ fn see_world<S: Alter>(alloc: Global, conn: &mut Connection<S>) -> Result<Entrie
 /// entries.
 fn judge_both<S: Alter>(alloc: Global, conn: &mut Connection<S>) -> Result<Entries, OpenFault>
     ensures refused { IfErr result IsOfRows }
-    ensures reads { Reads Second S.Store (IsSoundIfOpen S.Store conn.old)
+    ensures reads { ReadsOr NoFault Second S.Store (IsSoundIfOpen S.Store conn.old)
         (GivesOrFails (λ db e. Admits db.trees × HasEntries e (world_of db.trees))
         (λ db fault. SaysNot fault (HasGoodWorld db.trees)))
         result conn.old conn.new }
@@ -148,7 +148,7 @@ fn examine<S: Alter>(
     ensures version { IsCommitted (state S.Store conn.old) → HasFirstSchema conn.old.schema
         → HasCleanDisk (state S.Store conn.new)
         → OnOk result (HasVersion version (state S.Store conn.old).now.trees) }
-    ensures reads { IsTrue own → Reads Second S.Store (IsSoundIfOpen S.Store conn.old)
+    ensures reads { IsTrue own → ReadsOr NoFault Second S.Store (IsSoundIfOpen S.Store conn.old)
         (GivesOrFails (λ db e. Admits db.trees × HasEntries e (world_of db.trees))
         (λ db fault. IsTrueOfOpening fault db.trees))
         result conn.old conn.new }

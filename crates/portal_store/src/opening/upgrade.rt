@@ -7,7 +7,7 @@ ghost use Rattle.portal_rules.specs.declared.phase.Round.TheVariants.{First};
 ghost use Rattle.portal_tables.specs.Tables.{first_version, IsFirstSchema};
 ghost use Rattle.portal_tables.specs.Making.{has_names};
 ghost use Rattle.portal_tables.specs.declared.sql.names.Names.TheVariants.{OfSecond};
-ghost use Rattle.portal_tables.specs.Reads.{GivesOrFails, Reads, IsCommitted, OnlyLooks};
+ghost use Rattle.portal_tables.specs.Reads.{GivesOrFails, ReadsOr, NoFault, IsCommitted, OnlyLooks};
 ghost use Rattle.portal_list.specs.Rows.{HasEntries};
 ghost use Rattle.portal_store.specs.Calls.{RefusesToUpgrade, UpgradesStore};
 ghost use Rattle.portal_store.specs.Kept.{HasGoodFirst};
@@ -39,7 +39,7 @@ fn examine_first<S: Alter>(
         → OnOk result (Suits (IsTrue own) first_version [] (state S.Store conn.old)) }
     ensures judged { IsCommitted (state S.Store conn.old) → OverLive First S.Store conn.old conn.new
         (Judges result (HasGoodFirst first_version (state S.Store conn.old).now.trees)) }
-    ensures reads { IsTrue own → Reads First S.Store (IsSoundIfOpen S.Store conn.old)
+    ensures reads { IsTrue own → ReadsOr NoFault First S.Store (IsSoundIfOpen S.Store conn.old)
         (GivesOrFails (λ db e. AdmitsAs first_version db.trees
         × HasEntries e (world_in First db.trees))
         (λ db fault. IsTrueOfTables fault first_version

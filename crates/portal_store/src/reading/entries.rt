@@ -24,8 +24,9 @@ use std::alloc::Global;
 /// Builds the instance of the store's entries, cached or just read, without checking them. Entries
 /// without an instance are `Damaged`.
 pub(crate) fn instance_of(alloc: Global, entries: &Entries) -> Result<Instance, TableFault>
-    ensures { IfOk result (λ i. (w : World) → HasEntries entries.now w → Sound w
+    ensures meant { IfOk result (λ i. (w : World) → HasEntries entries.now w → Sound w
         → i ≡ meant_by.instance w) }
+    ensures store { result ≡ Err TableFault.Store → ⊥ }
 {
     entries.instance(alloc).map_err(rows_fault_of)
 }

@@ -8,7 +8,7 @@ ghost use Rattle.portal_rules.specs.declared.phase.Round.TheVariants.{Second};
 ghost use Rattle.portal_rules.specs.View.{sight_of, caller_among, OfficeCaller};
 ghost use Rattle.portal_rules.specs.View.{student_with};
 ghost use Rattle.portal_tables.specs.inner.Queries as asked;
-ghost use Rattle.portal_tables.specs.Reads.{Always, MayRead, Reads, Gives};
+ghost use Rattle.portal_tables.specs.Reads.{Always, MayRead, NoFault, Reads, ReadsOr, Gives};
 ghost use Rattle.portal_tables.specs.inner.Shown.{as_list};
 ghost use Rattle.portal_store.specs.World.{world_in, world_of};
 ghost use Rattle.portal_store.specs.Kept.{IsConsistent};
@@ -155,7 +155,7 @@ pub fn view<S: Alter>(
     conn: &mut Connection<S>,
     code: &[u8],
 ) -> Result<View, KeepFault>
-    ensures { Reads Second S.Store IsConsistent
+    ensures { ReadsOr NoFault Second S.Store IsConsistent
         (Gives (λ db view. Good (world_of db.trees)
         → view ≡ seen.view (world_of db.trees) code.now))
         result conn.old conn.new }

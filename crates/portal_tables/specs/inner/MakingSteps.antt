@@ -1,5 +1,5 @@
 -- How the tables come to be.
-use Rattle.std.specs.Prelude.{◌≡◌, ◌∷◌, ◌++◌}
+use Rattle.std.specs.Prelude.{◌≡◌, ◌∷◌}
 use Rattle.portal_tables.specs.inner.Base.{ℕ, List, [], false, map, Ok, Err, Result, AllByRecursion, Table}
 use Rattle.portal_tables.specs.inner.Base.{Schema, created, understood, IsPlain, Database, IsDatabase}
 use Rattle.portal_tables.specs.inner.Base.{First, Second}

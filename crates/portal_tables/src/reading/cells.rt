@@ -38,6 +38,7 @@ pub(crate) fn number_at(row: &Row, at: usize) -> u64
 pub fn key_at(alloc: Global, row: &Row, at: usize) -> Result<Key, TableFault>
     ensures ok { IfOk result (λ key. key ≡ bytes (column row.now at)) }
     ensures damaged { result ≡ Err TableFault.Damaged → is_key (bytes (column row.now at)) ≡ false }
+    ensures store { result ≡ Err TableFault.Store → ⊥ }
 {
     match Key::parse(alloc, bytes_at(row, at)) {
         Ok(key) => Ok(key),
@@ -51,6 +52,7 @@ pub fn name_at(alloc: Global, row: &Row, at: usize) -> Result<Name, TableFault>
     ensures ok { IfOk result (λ name. name ≡ bytes (column row.now at)) }
     ensures damaged { result ≡ Err TableFault.Damaged
         → is_name (bytes (column row.now at)) ≡ false }
+    ensures store { result ≡ Err TableFault.Store → ⊥ }
 {
     match Name::parse(alloc, bytes_at(row, at)) {
         Ok(name) => Ok(name),
@@ -64,6 +66,7 @@ pub(crate) fn code_at(alloc: Global, row: &Row, at: usize) -> Result<Code, Table
     ensures ok { IfOk result (λ code. code ≡ bytes (column row.now at)) }
     ensures damaged { result ≡ Err TableFault.Damaged
         → is_code (bytes (column row.now at)) ≡ false }
+    ensures store { result ≡ Err TableFault.Store → ⊥ }
 {
     match Code::parse(alloc, bytes_at(row, at)) {
         Ok(code) => Ok(code),
@@ -77,6 +80,7 @@ pub fn capacity_at(row: &Row, at: usize) -> Result<u32, TableFault>
     ensures ok { IfOk result (λ capacity. capacity ≡ number_in (column row.now at)) }
     ensures damaged { result ≡ Err TableFault.Damaged → 1 ≤ number_in (column row.now at)
         → number_in (column row.now at) ≤ MOST_PLACES → ⊥ }
+    ensures store { result ≡ Err TableFault.Store → ⊥ }
 {
     let number = number_at(row, at);
     if number < 1 || u64::from(MOST_PLACES) < number {
@@ -91,6 +95,7 @@ pub fn assigned_at(alloc: Global, row: &Row, at: usize) -> Result<Option<Key>, T
     ensures ok { IfOk result (λ key. key ≡ text_or_none (column row.now at)) }
     ensures damaged { result ≡ Err TableFault.Damaged
         → IfSome (text_or_none (column row.now at)) (λ p. is_key p ≡ true) → ⊥ }
+    ensures store { result ≡ Err TableFault.Store → ⊥ }
 {
     match row.get_ref(at) {
         Ok(ValueRef::Null) | Err(_) => Ok(None),

@@ -29,7 +29,8 @@ pub trait FromCells: Drop {
     /// Decodes the row.
     fn from_cells(alloc: Global, row: &Row) -> Result<Self, TableFault>
         ensures ok { IfOk result (λ x. x ≡ shown row.now) }
-        ensures damaged { result ≡ Err TableFault.Damaged → is_fine row.now → ⊥ };
+        ensures damaged { result ≡ Err TableFault.Damaged → is_fine row.now → ⊥ }
+        ensures store { result ≡ Err TableFault.Store → ⊥ };
 }
 
 impl FromCells for LecturerRow {
@@ -113,6 +114,7 @@ pub fn push_some<T: Drop>(all: &mut Vec<T>, item: Option<T>) -> Result<(), Alloc
 pub fn decode_rows<T: FromCells>(alloc: Global, rows: &[Row]) -> Result<Vec<T>, TableFault>
     ensures ok { IfOk result (λ v. v.items ≡ map T.shown rows.now) }
     ensures damaged { result ≡ Err TableFault.Damaged → AllByRecursion T.is_fine rows.now → ⊥ }
+    ensures store { result ≡ Err TableFault.Store → ⊥ }
 {
     let mut all = Vec::new(alloc);
     for row in rows {
@@ -126,6 +128,7 @@ pub fn decode_rows<T: FromCells>(alloc: Global, rows: &[Row]) -> Result<Vec<T>, 
 pub fn at_most_one<T: Drop>(mut rows: Vec<T>) -> Result<Option<T>, TableFault>
     ensures ok { IfOk result (λ row. as_list row ≡ rows.items) }
     ensures damaged { result ≡ Err TableFault.Damaged → length rows.items ≤ 1 → ⊥ }
+    ensures store { result ≡ Err TableFault.Store → ⊥ }
 {
     if rows.len() > 1 {
         return Err(TableFault::Damaged);
@@ -159,6 +162,7 @@ pub(crate) fn list_from(alloc: Global, rows: &[Row]) -> Result<Vec<Key>, TableFa
     ensures whole { IfOk result (λ v. CountUp 1 (map shown_rank rows.now)) }
     ensures damaged { result ≡ Err TableFault.Damaged → CountUp 1 (map shown_rank rows.now)
         → AllByRecursion (λ c. is_key (shown_name c) ≡ true) rows.now → ⊥ }
+    ensures store { result ≡ Err TableFault.Store → ⊥ }
 {
     if !do_count_up(rows) {
         return Err(TableFault::Damaged);

@@ -87,6 +87,7 @@ fn kept_entry(
     ensures none { OnOk result (is_there ≡ false → list.items ≡ []) }
     ensures damaged { result ≡ Err TableFault.Damaged
         → (is_there ≡ false → list.items ≡ []) → ⊥ }
+    ensures store { result ≡ Err TableFault.Store → ⊥ }
 {
     if is_there {
         return Ok(Some((owner, list)));

@@ -77,6 +77,7 @@ fn office_from(alloc: Global, rows: &[Row], version: u32) -> Result<Office, Tabl
     ensures damaged { result ≡ Err TableFault.Damaged
         → (row : Cells) (phase : ThePhase) (code : List ℕ) → rows.now ≡ row ∷ []
         → IsOffice version phase code row → is_code code ≡ true → ⊥ }
+    ensures store { result ≡ Err TableFault.Store → ⊥ }
 {
     let [row] = rows else {
         return Err(TableFault::Damaged);
@@ -116,6 +117,7 @@ fn second_from(rows: &[Row]) -> Result<Phase, TableFault>
     ensures ok { IfOk result (λ phase. IsSecond phase rows.now) }
     ensures damaged { result ≡ Err TableFault.Damaged
         → (phase : ThePhase) → IsSecond phase rows.now → ⊥ }
+    ensures store { result ≡ Err TableFault.Store → ⊥ }
 {
     let [row] = rows else {
         return Err(TableFault::Damaged);

@@ -64,6 +64,7 @@ pub(crate) fn placement_in<S: Alter>(
 fn place_before_at(alloc: Global, round: Round, row: &Row) -> Result<Option<Key>, TableFault>
     ensures ok { IfOk result (λ p. p ≡ placement_before round row.now) }
     ensures damaged { result ≡ Err TableFault.Damaged → HasFirstPlace row.now → ⊥ }
+    ensures store { result ≡ Err TableFault.Store → ⊥ }
 {
     match round {
         Round::First => Ok(None),
@@ -171,6 +172,7 @@ pub fn pairs_in<S: Alter>(
 fn pair_at(alloc: Global, row: &Row) -> Result<Option<(Key, Key)>, TableFault>
     ensures ok { IfOk result (λ pair. pair ≡ first_pair row.now) }
     ensures damaged { result ≡ Err TableFault.Damaged → HasPairKeys row.now → ⊥ }
+    ensures store { result ≡ Err TableFault.Store → ⊥ }
 {
     match assigned_at(alloc, row, 1)? {
         Some(project) => Ok(Some((key_at(alloc, row, 0)?, project))),
@@ -182,6 +184,7 @@ fn pair_at(alloc: Global, row: &Row) -> Result<Option<(Key, Key)>, TableFault>
 fn pairs_from(alloc: Global, rows: &[Row]) -> Result<Vec<(Key, Key)>, TableFault>
     ensures ok { IfOk result (λ v. v.items ≡ filter_map first_pair rows.now) }
     ensures damaged { result ≡ Err TableFault.Damaged → AllByRecursion HasPairKeys rows.now → ⊥ }
+    ensures store { result ≡ Err TableFault.Store → ⊥ }
 {
     let mut pairs = Vec::new(alloc);
     for row in rows {

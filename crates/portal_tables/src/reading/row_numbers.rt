@@ -4,7 +4,7 @@ ghost use Rattle.std.specs.Prelude.{◌≡◌};
 ghost use Rattle.portal_tables.specs.inner.Base.{true, IfSome, IsTrue, None, Int, column};
 ghost use Rattle.portal_tables.specs.Rows.{RowNumbersDiffer};
 ghost use Rattle.portal_tables.specs.inner.Queries.{table_tree, table_round};
-ghost use Rattle.portal_tables.specs.Reads.{Always, Reads, Gives};
+ghost use Rattle.portal_tables.specs.Reads.{Always, IsOtherError, ReadsOr, Gives};
 ghost use Rattle.portal_tables.specs.inner.Rising.{rises};
 
 use crate::sql::select::{Query, Table, read};
@@ -38,7 +38,7 @@ fn numbers_rise(rows: &[Row]) -> bool
 
 /// Returns whether the rowids of a table are distinct.
 pub fn row_numbers_differ<S: Alter>(conn: &mut Connection<S>, table: Table) -> Result<bool, Error>
-    ensures { Reads (table_round table) S.Store Always
+    ensures { ReadsOr IsOtherError (table_round table) S.Store Always
         (Gives (λ db apart. IsTrue apart → RowNumbersDiffer (db.trees (table_tree table))))
         result conn.old conn.new }
 {

@@ -118,6 +118,7 @@ pub fn parts_of(alloc: Global, rolls: &Rolls) -> Result<Parts, TableFault>
         → AllByRecursion (λ c. IsLecturer (shown_lecturer c)) rolls.now.lecturers.items
         → AllByRecursion (λ c. IsProject (shown_project c)) rolls.now.projects.items
         → AllByRecursion (λ c. IsStudent (shown_student c)) rolls.now.students.items → ⊥ }
+    ensures store { result ≡ Err TableFault.Store → ⊥ }
 {
     Ok(Parts {
         lecturers: decode_rows(alloc, &rolls.lecturers)?,

@@ -8,7 +8,8 @@ ghost use Rattle.portal_tables.specs.inner.Queries.{QueryShows, round_asked};
 ghost use Rattle.portal_tables.specs.QueryTexts.{query_text, given};
 ghost use Rattle.portal_tables.specs.QueryTexts as texts;
 ghost use Rattle.portal_tables.specs.Steps.{HasAnswer, HasRefusal, IsStoreError};
-ghost use Rattle.portal_tables.specs.Reads.{Always, GivesOrFails, Blames, Reads, Gives};
+ghost use Rattle.portal_tables.specs.Reads.{Always, GivesOrFails, Blames, Reads, ReadsOr, Gives};
+ghost use Rattle.portal_tables.specs.Reads.{IsOtherError};
 ghost use Rattle.portal_tables.specs.inner.Shown.{as_list};
 
 use crate::fault::TableFault;
@@ -209,7 +210,7 @@ fn values<'a>(value: &'a Option<ValueRef<'a>>) -> &'a [ValueRef<'a>]
 /// the rows are what the query's text shows there, and an error that is not the store's is the
 /// text's: in the same state, the query would show them, or fail with it, again.
 pub fn read<S: Alter>(conn: &mut Connection<S>, query: Query<'_>) -> Result<Vec<Row>, Error>
-    ensures reads { Reads (round_asked query.entry) S.Store Always
+    ensures reads { ReadsOr IsOtherError (round_asked query.entry) S.Store Always
         (Gives (λ db rows. QueryShows query.entry db.trees rows.items)) result conn.old conn.new }
     ensures answers { HasCleanDisk (state S.Store conn.new)
         → IfOk result (λ rows. HasAnswer query.entry (state S.Store conn.old) rows.items) }
@@ -250,7 +251,7 @@ pub fn read_rows<S: Alter>(
 
 /// Runs one of the queries and returns whether it finds any row. Reads at most one row.
 pub fn finds_any<S: Alter>(conn: &mut Connection<S>, query: Query<'_>) -> Result<bool, Error>
-    ensures { Reads (round_asked query.entry) S.Store Always
+    ensures { ReadsOr IsOtherError (round_asked query.entry) S.Store Always
         (Gives (λ db. FindsAny (QueryShows query.entry db.trees))) result conn.old conn.new }
 {
     run::query_any(conn, query.text(), values(&query.value()))

@@ -6,7 +6,7 @@ use Rattle.portal_views.proofs.applicants.before_in.Goals as goal
 
 pub returns-in_ok-placed_at-in-Second : goal.returns-in_ok-placed_at-in-Second
 returns-in_ok-placed_at-in-Second g c =
-    rw c.in-Second.is (reads_more (reads_open (reads_both c.in_ok-lines-in-Second.ensures))
+    rw c.in-Second.is (reads_more tt (reads_open (reads_both c.in_ok-lines-in-Second.ensures))
     (λ own tables told. c.in_ok-placed_at-in-Second.ensures ∙ ap (persons_at c.args.project.now) (c.deref.ensures.value ∙ told)))
 
 pub returns-in_err-lines-in-Second : goal.returns-in_err-lines-in-Second

@@ -22,7 +22,7 @@ loop-project-preserved g c =
     let key = c.project-item.result in
     let next : take (at + 1) keys ≡ take at keys ++ key ∷ [] = next_item keys at key c.project-item.is c.loop-project-test.true in
     let persons : List ApplicantLine → List Person = map (λ (l : ApplicantLine). l.person) in
-    reads_more (reads_then c.loop-project.invariant (reads_then c.in_ok-lines.ensures c.in_ok-placed.ensures))
+    reads_more tt (reads_then c.loop-project.invariant (reads_then c.in_ok-lines.ensures c.in_ok-placed.ensures))
     (λ own tables told. record {
       applicants =
           c.in_ok-add.ensures.applicants ∙ (λ i. told.0.applicants i

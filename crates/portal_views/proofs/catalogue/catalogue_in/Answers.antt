@@ -14,6 +14,6 @@ returns-in_err-new g c = reads_short c.from_residual-in_err-new.ensures.1 (reads
 pub returns : goal.returns
 returns g c =
     let pairs = first_pairs (state g.S.Store c.args.conn.now).now.trees in
-    reads_more (reads_then c.in_ok-offers.ensures c.in_ok-listings.ensures)
+    reads_more tt (reads_then c.in_ok-offers.ensures c.in_ok-listings.ensures)
     (λ own any told. ap (λ (v : Vec Listing Global). v.items) c.in_ok-new.ensures.ok ∙ told.1
     ∙ ap₂ (λ ls ps. offered_in c.args.round ls ps pairs) (c.deref.ensures.value ∙ told.0.0) (c.deref-2.ensures.value ∙ told.0.1))

@@ -4,12 +4,12 @@ use Rattle.portal_views.proofs.catalogue.listings_in.Goals as goal
 
 pub returns-in_ok-listings_of-in-First : goal.returns-in_ok-listings_of-in-First
 returns-in_ok-listings_of-in-First g c =
-    rw c.in-First.is (reads_self (λ own any. c.in_ok-listings_of-in-First.ensures
+    rw c.in-First.is (reads_self tt (λ own any. c.in_ok-listings_of-in-First.ensures
     ∙ ap (λ ls. offered ls c.args.projects.now) (map-id c.args.lecturers.now)))
 
 pub returns-in_ok-listings_left-in-Second : goal.returns-in_ok-listings_left-in-Second
 returns-in_ok-listings_left-in-Second g c =
-    rw c.in-Second.is (reads_more (reads_open c.in_ok-pairs-in-Second.ensures)
+    rw c.in-Second.is (reads_more tt (reads_open c.in_ok-pairs-in-Second.ensures)
     (λ own any told. c.in_ok-listings_left-in-Second.ensures
     ∙ ap (offered_in Second c.args.lecturers.now c.args.projects.now) (c.deref.ensures.value ∙ told)))
 

@@ -51,7 +51,7 @@ returns-in_err-pairs g c =
 
 pub returns-in_err-parts : goal.returns-in_err-parts
 returns-in_err-parts g c =
-    reads_rejected c.in_err-parts.field-0.0 c.from_residual-in_err-parts.ensures.1
+    reads_rejected c.in_err-parts.field-0.0 (λ its. c.in_err-parts.ensures.store (ap Err its)) c.from_residual-in_err-parts.ensures.1
     (reads_then (reads_first c.in_ok-rolls.ensures)
     (reads_then (reads_open c.in_ok-choices.ensures)
     (reads_then (reads_open c.in_ok-rankings.ensures) c.in_ok-pairs.ensures)))
@@ -68,7 +68,7 @@ returns g c =
     let choices = c.in_ok-choices.ensures in
     let rankings = c.in_ok-rankings.ensures in
     let parts = c.in_ok-parts.ensures in
-    reads_more
+    reads_more tt
     (reads_then (reads_first c.in_ok-rolls.ensures)
     (reads_then (reads_open (rw c.deref.ensures.value at choices))
     (reads_then (reads_open (rw c.deref-2.ensures.value at rankings)) (rw c.deref-3.ensures.value at c.in_ok-pairs.ensures))))

@@ -25,14 +25,14 @@ returns-in_err-told g c =
 
 pub returns-in_err-person_at : goal.returns-in_err-person_at
 returns-in_err-person_at g c =
-    reads_rejected c.in_err-person_at.field-0.0 c.from_residual-in_err-person_at.ensures.1
+    reads_rejected c.in_err-person_at.field-0.0 (λ its. c.in_err-person_at.ensures.store (ap Err its)) c.from_residual-in_err-person_at.ensures.1
     (reads_then c.in_ok-own.ensures (reads_then
     (reads_of (λ own. own) (λ own tables. tables.sound) c.in_ok-ranking.ensures) c.in_ok-told.ensures))
     (λ own tables told damaged fine. c.in_err-person_at.ensures.damaged (ap Err damaged) fine.person)
 
 pub returns-in_err-capacity_at : goal.returns-in_err-capacity_at
 returns-in_err-capacity_at g c =
-    reads_rejected c.in_err-capacity_at.field-0.0 c.from_residual-in_err-capacity_at.ensures.1
+    reads_rejected c.in_err-capacity_at.field-0.0 (λ its. c.in_err-capacity_at.ensures.store (ap Err its)) c.from_residual-in_err-capacity_at.ensures.1
     (reads_then c.in_ok-own.ensures (reads_then
     (reads_of (λ own. own) (λ own tables. tables.sound) c.in_ok-ranking.ensures) c.in_ok-told.ensures))
     (λ own tables told damaged fine. c.in_err-capacity_at.ensures.damaged (ap Err damaged) fine.low fine.high)
@@ -46,7 +46,7 @@ returns g c =
     let catalogue = c.args.catalogue.value.items in
     let from = lecturer_shown round db phase row catalogue in
     let offers : c.deref-2.result.now ≡ catalogue = c.deref-2.ensures.value ∙ ap (λ (v : Vec Listing Global). v.items) c.deref.ensures in
-    reads_more
+    reads_more tt
     (reads_then c.in_ok-own.ensures (reads_then
     (reads_of (λ own. own) (λ own tables. tables.sound) c.in_ok-ranking.ensures) c.in_ok-told.ensures))
     (λ own tables told offered.

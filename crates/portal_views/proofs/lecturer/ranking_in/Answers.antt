@@ -9,7 +9,7 @@ second_of false key list = refl
 
 pub returns : goal.returns
 returns g c =
-    reads_more c.in_ok-entry.ensures
+    reads_more tt c.in_ok-entry.ensures
     (λ own sound told. c.list_of.ensures ∙ ap (option_map (λ e. e.1)) told.0
     ∙ second_of (has_list (Rankings c.args.round) (state g.S.Store c.args.conn.now).now.trees c.args.row.now) _ _)
 

@@ -10,4 +10,4 @@ returns-in_err-placed-in-Second g c =
 
 pub returns-in_ok-placed-in-Second : goal.returns-in_ok-placed-in-Second
 returns-in_ok-placed-in-Second g c = rw c.in-Second.is
-    (reads_more (reads_open c.in_ok-placed-in-Second.ensures) (λ own sound told. search (rules, told)))
+    (reads_more tt (reads_open c.in_ok-placed-in-Second.ensures) (λ own sound told. search (rules, told)))

@@ -19,7 +19,7 @@ returns-in_err-push g c =
 
 pub loop-row-preserved : goal.loop-row-preserved
 loop-row-preserved g c =
-    reads_more (reads_then c.loop-row.invariant (reads_open c.in_ok-line_in.ensures))
+    reads_more tt (reads_then c.loop-row.invariant (reads_open c.in_ok-line_in.ensures))
     (λ own tables told.
     let before = told.0 in
     let here = told.1 ∙ ap (applicant_at c.args.round (state g.S.Store c.args.conn.now).now.trees) c.bytes_at.ensures in

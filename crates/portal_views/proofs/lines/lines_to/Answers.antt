@@ -1,3 +1,4 @@
+use Rattle.portal_tables.proofs.InTurn.{its_own}
 use Rattle.portal_views.proofs.Base.{◌∙◌, ◌∷◌, AllByRecursion, IsStudentKey, List, ListsBy, MatchResult-weaker, Row, []}
 use Rattle.portal_views.proofs.Base.{all_unmap, ap, applicant_at, Choices, columns, first_cell, has_text, map}
 use Rattle.portal_views.proofs.Base.{reads_as, reads_handed, reads_then, state, subst, sym, tree_of}
@@ -19,7 +20,7 @@ returns g c =
     let db = (state g.S.Store c.args.conn.now).now in
     let round = c.args.round in
     let rows = c.in_ok-rows.rows.items in
-    reads_as (reads_then (reads_any c.in_ok-rows.ensures.reads) c.lines_each.ensures) (λ no. no)
+    reads_as (its_own _ r) (reads_then (reads_any c.in_ok-rows.ensures.reads) c.lines_each.ensures) (λ no. no)
     (λ own tables told.
     let shown : ListsBy (1 ∷ []) (has_text 3 c.args.project.now) (columns (1 ∷ [])) (db.trees (tree_of (Choices round))) rows =
     subst (λ key. ListsBy (1 ∷ []) (has_text 3 key) (columns (1 ∷ [])) (db.trees (tree_of (Choices round))) rows) c.as_bytes.ensures.bytes

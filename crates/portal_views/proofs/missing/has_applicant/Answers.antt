@@ -9,17 +9,17 @@ returns-in_err-is_chosen_in-clause-reads g c =
 
 pub returns-then-branch-clause-reads : goal.returns-then-branch-clause-reads
 returns-then-branch-clause-reads g c =
-    reads_more (reads_then c.loop-project.invariant c.in_ok-is_chosen_in.ensures.reads)
+    reads_more tt (reads_then c.loop-project.invariant c.in_ok-is_chosen_in.ensures.reads)
     (λ own lists told. let before = told.0 in let here = told.1 in grind (arith, common_steps, before, here))
 
 pub loop-project-preserved : goal.loop-project-preserved
 loop-project-preserved g c =
-    reads_more (reads_then c.loop-project.invariant c.in_ok-is_chosen_in.ensures.reads)
+    reads_more tt (reads_then c.loop-project.invariant c.in_ok-is_chosen_in.ensures.reads)
     (λ own lists told. let before = told.0 in let here = told.1 in grind (arith, common_steps, before, here))
 
 pub returns-clause-reads : goal.returns-clause-reads
 returns-clause-reads g c =
     let wanted : List Row → Bool = λ ps. is_wanted_shown c.args.round (state g.S.Store c.args.conn.now).now.trees (map shown_project ps)
     (first_cell c.args.lecturer.now) in
-    reads_more c.loop-project.invariant (λ own lists told. sym
+    reads_more tt c.loop-project.invariant (λ own lists told. sym
     (at_drop_all wanted c.args.projects.now c.loop-project.project-index (omega (arith, c.loop-project-test.false))) ∙ told)

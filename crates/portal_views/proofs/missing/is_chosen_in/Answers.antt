@@ -11,7 +11,7 @@ returns-clause-reads g c =
     let round = c.args.round in
     let project = shown_project c.args.project.now in
     let own : equals project.lecturer (first_cell c.args.lecturer.now) ≡ true = search rules in
-    reads_more (reads_open (reads_any c.in_ok-finds_any.ensures))
+    reads_more tt (reads_open (reads_any c.in_ok-finds_any.ensures))
     (λ _ lists found.
     let told = subst (λ (k : Key). FindsAny (ListsBy (1 ∷ []) (has_text 3 k) (columns (1 ∷ [])) (db.trees (tree_of (Choices round))))
     c.in_ok-finds_any.field-0) c.bytes_at-3.ensures found in

@@ -18,7 +18,7 @@ loop-lecturer-preserved g c =
     let i = c.loop-lecturer.lecturer-index in
     let lecturer = c.lecturer-item.result in
     let items = c.deref-lecturer-items.ensures.value in
-    reads_more (reads_then c.loop-lecturer.invariant (rw c.deref.ensures.value at c.in_ok-key.ensures.reads))
+    reads_more tt (reads_then c.loop-lecturer.invariant (rw c.deref.ensures.value at c.in_ok-key.ensures.reads))
     (λ own lists told.
     c.in_ok-push_some.ensures
     ∙ next_given (waiting_key c.args.round (state g.S.Store c.args.conn.now).now.trees (map shown_project rolls.projects.items))

@@ -1,3 +1,4 @@
+use Rattle.portal_tables.proofs.InTurn.{its_own}
 use Rattle.portal_views.proofs.Base.{◌∙◌, if◌then◌else◌, ◌≡◌, Bool, IfOk-weaker, List, None, ProjectRow, Round, Row}
 use Rattle.portal_views.proofs.Base.{Some, Trees, ap, cond, false, first_cell, has_list, is_wanted_shown, Rankings}
 use Rattle.portal_views.proofs.Base.{reads_as, reads_handed, reads_more, reads_then, true, waiting_key}
@@ -18,10 +19,10 @@ returns-in_err-has_list_in-clause-reads g c =
 pub returns-then-branch-clause-reads : goal.returns-then-branch-clause-reads
 returns-then-branch-clause-reads g c =
     let read = reads_whole c.in_ok-has_list_in.ensures.reads in
-    reads_more (rw c.if-branch.true at read) (λ own lists told. decided c.args.round _ _ c.args.lecturer.now true told)
+    reads_more tt (rw c.if-branch.true at read) (λ own lists told. decided c.args.round _ _ c.args.lecturer.now true told)
 
 pub returns-clause-reads : goal.returns-clause-reads
 returns-clause-reads g c =
     let read = reads_whole c.in_ok-has_list_in.ensures.reads in
-    reads_as (reads_then (rw c.if-branch.false at read) c.wanted_in.ensures.reads) (λ no. no)
+    reads_as (its_own _ c.wanted_in.result) (reads_then (rw c.if-branch.false at read) c.wanted_in.ensures.reads) (λ no. no)
     (λ own lists told. IfOk-weaker c.wanted_in.result _ _ (λ k is. is ∙ decided c.args.round _ _ c.args.lecturer.now false told.0) told.1)

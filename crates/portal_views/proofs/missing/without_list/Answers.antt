@@ -1,3 +1,4 @@
+use Rattle.portal_tables.proofs.InTurn.{not_stores}
 use Rattle.portal_views.proofs.Base.{◌∙◌, ◌∷◌, IfOk-weaker, ListsBy, [], Choices, columns, has_number, judged}
 use Rattle.portal_views.proofs.Base.{reads_handed, reads_more, state, subst, sym, tree_of}
 use Rattle.portal_views.proofs.Turns.{reads_any}
@@ -15,7 +16,7 @@ returns g c =
     let r = c.keys_not_among.result in
     let db = (state g.S.Store c.args.conn.now).now in
     let round = c.args.round in
-    reads_more (reads_any c.in_ok-listed.ensures.reads)
+    reads_more (not_stores r c.keys_not_among.ensures.store) (reads_any c.in_ok-listed.ensures.reads)
     (λ own lists told.
     let shown : ListsBy (1 ∷ []) (has_number 2 1) (columns (1 ∷ [])) (db.trees (tree_of (Choices round))) c.deref.result.now =
     subst (λ rows. ListsBy (1 ∷ []) (has_number 2 1) (columns (1 ∷ [])) (db.trees (tree_of (Choices round))) rows)

@@ -1,3 +1,4 @@
+use Rattle.portal_tables.proofs.InTurn.{not_stores}
 use Rattle.portal_views.proofs.Base.{◌∙◌, AreReadable, Database, Err, HasFirstPlace, HasKeyForm, HasPlacement}
 use Rattle.portal_views.proofs.Base.{HasPlacementAsked, IfOk-weaker, IsLecturer, IsStudent, Lecturers, Projects, Round}
 use Rattle.portal_views.proofs.Base.{Some, Students, all_two, all_weaker, ap, judged, office_sees_with, reads_handed}
@@ -72,7 +73,7 @@ returns g c =
     let round = c.args.round in
     let sees = office_sees_with round db.trees c.args.office.phase c.args.office.code c.args.catalogue.value.items in
     let read = reads_whole c.in_ok-pairs.ensures in
-    reads_more
+    reads_more (not_stores r c.office_view_from.ensures.store)
     (reads_then (reads_first c.in_ok-rolls.ensures)
     (reads_then (reads_open (rw c.deref.ensures.value at c.in_ok-unlisted.ensures))
     (reads_then c.in_ok-waiting.ensures.reads (rw c.deref-2.ensures.value at read))))

@@ -15,7 +15,7 @@ returns-in_err-place g c =
 
 pub returns-in_err-person_at : goal.returns-in_err-person_at
 returns-in_err-person_at g c =
-    reads_rejected c.in_err-person_at.field-0.0 c.from_residual-in_err-person_at.ensures.1
+    reads_rejected c.in_err-person_at.field-0.0 (λ its. c.in_err-person_at.ensures.store (ap Err its)) c.from_residual-in_err-person_at.ensures.1
     (reads_then (reads_open (reads_any c.in_ok-choices.ensures)) c.in_ok-place.ensures)
     (λ own sound told damaged fine. c.in_err-person_at.ensures.damaged (ap Err damaged) fine.person)
 
@@ -24,5 +24,5 @@ returns g c =
     let from = student_shown c.args.round (state g.S.Store c.args.conn.now).now.trees c.args.phase c.args.row.now
     c.args.catalogue.value.items in
     let read = c.in_ok-choices.ensures in
-    reads_more (reads_then (reads_open (reads_any (rw c.in_ok-student.ensures.ok at read))) c.in_ok-place.ensures)
+    reads_more tt (reads_then (reads_open (reads_any (rw c.in_ok-student.ensures.ok at read))) c.in_ok-place.ensures)
     (λ own sound told i. record from { me = c.in_ok-person_at.ensures.ok i; choices = told.0.are i; result = told.1 i })

@@ -43,4 +43,4 @@ returns-in-Some-clause-instance g c =
     (subst (λ s. Good (kept_world g.S.Store s)) (sym c.self.view_is)
     (c.requires.good (subst (λ s. IsCleanStore g.S.Store s) c.self.view_is on))).sound
     ∙ ap (λ s. instance (kept_world g.S.Store s)) c.self.view_is)
-    c.instance_of.ensures)
+    c.instance_of.ensures.meant)

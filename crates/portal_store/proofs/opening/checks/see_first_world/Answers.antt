@@ -1,3 +1,4 @@
+use Rattle.portal_tables.proofs.InTurn.{unsaid}
 use Rattle.portal_store.proofs.Base.{First, MatchResult-weaker, reads_more, state, world_in, IfErr-weaker}
 use Rattle.portal_store.proofs.Asked.{denied_of, denies_more, reads_said, of_told, of_judged}
 use Rattle.portal_store.proofs.Loaded.{nothing_earlier}
@@ -11,7 +12,7 @@ returns-in_err-rows-clause-reads g c =
 pub returns-clause-reads : goal.returns-clause-reads
 returns-clause-reads g c =
     let db = (state g.S.Store c.args.conn.now).now.trees in
-    reads_more c.in_ok-rows.ensures
+    reads_more (unsaid _ _) c.in_ok-rows.ensures
     (λ own sound loads. MatchResult-weaker c.judge_rows.result
     (c.judge_rows.ensures.good (world_in First db) loads.rows_are (nothing_earlier First db))
     (λ e it. (record { office = loads.office; whole = loads.whole; good = it.0 }, it.1)) (λ f. denies_more f _ _ (λ stands. stands.good)))

@@ -1,3 +1,4 @@
+use Rattle.portal_tables.proofs.InTurn.{unsaid}
 use Rattle.portal_store.proofs.Base.{◌∷◌, ListsBy, [], columns, every, on_ok_weaker, portal_tree, reads_more, state}
 use Rattle.portal_store.proofs.Base.{subst, sym, MatchResult-from_both}
 use Rattle.portal_store.specs.Crash.{ShowsOffice}
@@ -9,7 +10,7 @@ pub returns-clause-reads : goal.returns-clause-reads
 returns-clause-reads g c =
     let db = (state g.S.Store c.args.conn.now).now.trees in
     let judged = c.judge_office.ensures in
-    reads_more c.in_ok-rows.ensures.reads
+    reads_more (unsaid _ _) c.in_ok-rows.ensures.reads
     (λ own any shown.
     let lists = subst (λ rows. ListsBy (0 ∷ []) every (columns (0 ∷ 2 ∷ 3 ∷ 4 ∷ [])) (db portal_tree) rows)
     (sym c.deref.ensures.value) shown in

@@ -1,7 +1,8 @@
+use Rattle.portal_tables.proofs.InTurn.{unsaid}
 use Rattle.portal_store.proofs.Base.{Err, IfErr-weaker, Admits, GivesOrFails, SaysNot, HasEntries, HasGoodWorld}
 use Rattle.portal_store.proofs.Base.{Held, IsTrue, inr}
 use Rattle.portal_store.proofs.Base.{MatchResult-weaker, Second, current_own, reads_as, reads_handed, reads_of}
-use Rattle.portal_store.proofs.Base.{reads_open, reads_then_of, subst, world_of, Reads, IsSoundIfOpen, clean_before}
+use Rattle.portal_store.proofs.Base.{reads_open, reads_then_of, subst, world_of, ReadsOr, NoFault, IsSoundIfOpen, clean_before}
 use Rattle.portal_store.proofs.Base.{looks_by, looks_then, on_ok_weaker, settled_still, state, version}
 use Rattle.portal_store.specs.Crash.{later_queries}
 use Rattle.portal_store.proofs.Asked.{blamed, blames_more}
@@ -20,11 +21,11 @@ pub returns-clause-reads : goal.returns-clause-reads
 returns-clause-reads g c mine =
     let r = c.judge_both.result in
     let e = c.judge_both.new.conn in
-    let judged = subst (λ (h : Held g.row.S.Denot). Reads Second g.S.Store (IsSoundIfOpen g.S.Store h)
+    let judged = subst (λ (h : Held g.row.S.Denot). ReadsOr NoFault Second g.S.Store (IsSoundIfOpen g.S.Store h)
     (GivesOrFails (λ db e. Admits db.trees × HasEntries e (world_of db.trees)) (λ db fault. SaysNot fault (HasGoodWorld db.trees))) r h
     e)
     (c.in_ok-see_tables.ensures.same mine) c.judge_both.ensures.reads in
-    reads_as (reads_then_of (λ own on sound told. λ _. sound (on tt))
+    reads_as (unsaid _ _) (reads_then_of (λ own on sound told. λ _. sound (on tt))
     (reads_of (current_own _) (λ own sound. tt) (c.in_ok-see_first.ensures.reads mine)) (reads_open judged)) (λ no. no)
     (λ own sound told. MatchResult-weaker r told.1 (λ e it. it) (λ f no. blamed f _ _ _ told.0 no))
 

@@ -1,3 +1,4 @@
+use Rattle.portal_tables.proofs.InTurn.{unsaid}
 use Rattle.portal_store.proofs.Base.{MatchResult-weaker, reads_any, reads_as, reads_handed, reads_open, reads_then}
 use Rattle.portal_store.proofs.Base.{reads_then_of, round_in, state}
 use Rattle.portal_store.proofs.Asked.{apart_both, of_rows}
@@ -16,7 +17,7 @@ pub returns-clause-reads : goal.returns-clause-reads
 returns-clause-reads g c =
     let r = c.see_world.result in
     let db = (state g.S.Store c.args.conn.now).now.trees in
-    reads_as
+    reads_as (unsaid _ _)
     (reads_then_of (λ own on sound told. sound (on tt)) (reads_any c.in_ok-see_numbers.ensures.reads)
     (reads_open (reads_then c.in_ok-see_second.ensures.reads (reads_open c.see_world.ensures.reads)))) (λ no. no)
     (λ own sound told. MatchResult-weaker r told.1.1

@@ -9,12 +9,12 @@ returns-in_err-found-clause-reads g c = reads_said c.from_residual.ensures.1 (re
 
 pub returns-then-found-clause-reads : goal.returns-then-found-clause-reads
 returns-then-found-clause-reads g c =
-    reads_more (reads_any c.in_ok-found.ensures)
+    reads_more (λ none. absurd none) (reads_any c.in_ok-found.ensures)
     (λ own all told. found_some c.args.query (state g.S.Store c.args.conn.now).now.trees c.in_ok-found.found all told c.if-found.true)
 
 pub returns-else-found-clause-reads : goal.returns-else-found-clause-reads
 returns-else-found-clause-reads g c =
-    reads_more (reads_any c.in_ok-found.ensures)
+    reads_more tt (reads_any c.in_ok-found.ensures)
     (λ own all told. found_none c.args.query (state g.S.Store c.args.conn.now).now.trees c.in_ok-found.found all told c.if-found.false)
 
 pub returns-in_err-found-clause-refused : goal.returns-in_err-found-clause-refused

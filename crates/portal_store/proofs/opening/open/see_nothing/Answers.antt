@@ -1,3 +1,4 @@
+use Rattle.portal_tables.proofs.InTurn.{unsaid}
 use Rattle.portal_store.proofs.Base.{MatchResult-weaker, reads_as, reads_handed, reads_of, reads_open, reads_then_of}
 use Rattle.portal_store.proofs.Base.{refl}
 use Rattle.portal_store.proofs.Asked.{denies_more}
@@ -21,7 +22,7 @@ returns-in_err-see_none-3-clause-reads g c =
 pub returns-clause-reads : goal.returns-clause-reads
 returns-clause-reads g c =
     let first = reads_of (λ own. own) (λ own any. refl) c.in_ok-see_none.ensures.reads in
-    reads_as
+    reads_as (unsaid _ _)
     (reads_then_of (λ own on any told. refl)
     (reads_then_of (λ own on any told. refl) (reads_then_of (λ own on any told. refl) first (reads_open c.in_ok-see_none-2.ensures.reads))
     (reads_open c.in_ok-see_none-3.ensures.reads)) (reads_open c.see_none-4.ensures.reads)) (λ no. no)

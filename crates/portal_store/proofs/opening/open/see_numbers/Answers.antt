@@ -1,3 +1,4 @@
+use Rattle.portal_tables.proofs.InTurn.{unsaid}
 use Rattle.portal_store.proofs.Base.{IfOk-weaker, reads_as, reads_both, reads_handed, reads_open, reads_then, state}
 use Rattle.portal_store.proofs.Asked.{all_apart}
 use Rattle.portal_store.proofs.opening.open.see_numbers.Goals as goal
@@ -30,7 +31,7 @@ returns-clause-reads g c =
     let two = reads_then (reads_both c.in_ok-see_first_numbers.ensures.reads) (reads_open c.in_ok-see_row_numbers.ensures.reads) in
     let four = reads_then (reads_then two (reads_open c.in_ok-see_row_numbers-2.ensures.reads))
     (reads_open c.in_ok-see_row_numbers-3.ensures.reads) in
-    reads_as (reads_then four (reads_open c.see_row_numbers-4.ensures.reads)) (λ no. no)
+    reads_as (unsaid _ _) (reads_then four (reads_open c.see_row_numbers-4.ensures.reads)) (λ no. no)
     (λ own any told. IfOk-weaker c.see_row_numbers-4.result _ _
     (λ _ last. all_apart (state g.S.Store c.args.conn.now).now.trees told.0.0.0.0 (told.0.0.0.1, (told.0.0.1, (told.0.1, (last, tt)))))
     told.1)

@@ -1,3 +1,4 @@
+use Rattle.portal_tables.proofs.InTurn.{unsaid}
 use Rattle.portal_store.proofs.Base.{Good, MatchResult-weaker, reads_more, round_in, state, subst, sym, world_of}
 use Rattle.portal_store.proofs.Base.{IfErr-weaker}
 use Rattle.portal_store.proofs.Asked.{denied_of, denies_more, reads_said, of_told, of_judged}
@@ -14,7 +15,7 @@ pub returns-clause-reads : goal.returns-clause-reads
 unfolding world_of
 returns-clause-reads g c =
     let db = (state g.S.Store c.args.conn.now).now.trees in
-    reads_more c.in_ok-rows.ensures
+    reads_more (unsaid _ _) c.in_ok-rows.ensures
     (λ own sound loads. MatchResult-weaker c.judge_rows.result
     (c.judge_rows.ensures.good (world_of db) loads.rows_are (nothing_earlier (round_in db) db))
     (λ e it. (record { office = loads.office; whole = loads.whole; good = it.0 }, it.1))

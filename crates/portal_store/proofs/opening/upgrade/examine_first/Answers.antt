@@ -1,3 +1,4 @@
+use Rattle.portal_tables.proofs.InTurn.{unsaid}
 use Rattle.portal_store.proofs.Base.{Database, HasGoodFirst, MatchResult-weaker, first_version, IfErr-weaker, reads_any}
 use Rattle.portal_store.proofs.Base.{reads_as, reads_open, reads_then_of, clean_before, looks_by, looks_then}
 use Rattle.portal_store.proofs.Base.{[], IsTrue, SaysNot, on_ok_weaker, state, subst}
@@ -8,7 +9,7 @@ use Rattle.portal_store.proofs.opening.upgrade.examine_first.Goals as goal
 pub returns-clause-reads : goal.returns-clause-reads
 returns-clause-reads g c mine =
     let r = c.judge_first.result in
-    reads_as (reads_then_of (λ own on sound told. λ _. sound (on tt)) (reads_any (c.in_ok-see_first.ensures.reads mine))
+    reads_as (unsaid _ _) (reads_then_of (λ own on sound told. λ _. sound (on tt)) (reads_any (c.in_ok-see_first.ensures.reads mine))
     (reads_open c.judge_first.ensures.reads)) (λ no. no)
     (λ own sound told. MatchResult-weaker r told.1 (λ e it. it) (λ f no. blamed f _ _ _ told.0 no))
 

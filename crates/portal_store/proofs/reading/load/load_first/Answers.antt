@@ -19,6 +19,6 @@ pub returns : goal.returns
 returns g c =
     let o = c.in_ok-office in
     let f = c.in_ok-contents in
-    reads_more (reads_then (reads_any o.ensures) (reads_open f.ensures))
+    reads_more tt (reads_then (reads_any o.ensures) (reads_open f.ensures))
     (λ own sound told. rw (c.new.ensures.items, c.new-2.ensures.items, c.new-3.ensures.items)
     (loads _ c.args.version o.office.phase o.office.code (told.0 sound) (rows_held f.contents) told.1))

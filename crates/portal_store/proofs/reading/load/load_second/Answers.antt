@@ -29,7 +29,7 @@ returns-in_err-contents g c =
 pub returns : goal.returns
 returns g c =
     let f = c.in_ok-contents in
-    reads_more (reads_then (reads_any c.in_ok-phase.ensures)
+    reads_more tt (reads_then (reads_any c.in_ok-phase.ensures)
     (reads_open (reads_then (reads_both c.in_ok-first.ensures) (reads_open f.ensures))))
     (λ own sound told. subst (LoadsIn Second (state g.S.Store c.args.conn.now).now.trees) (sym c.after_first.ensures)
     (loads_after _ c.in_ok-first.first c.in_ok-phase.phase told.1.0 (told.0 sound) (rows_held f.contents) told.1.1))

@@ -1,3 +1,4 @@
+use Rattle.portal_tables.proofs.InTurn.{not_stores}
 use Rattle.portal_store.proofs.Base.{IfOk-weaker, reads_handed, reads_more, state, subst, sym}
 use Rattle.portal_tables.specs.inner.Queries.{QueryShows}
 use Rattle.portal_store.proofs.reading.queries.only_row.Goals as goal
@@ -7,6 +8,6 @@ returns-in_err-rows g c = reads_handed c.from_residual.ensures.1 c.in_err-rows.e
 
 pub returns : goal.returns
 returns g c =
-    reads_more c.in_ok-rows.ensures.reads
+    reads_more (not_stores c.at_most_one.result c.at_most_one.ensures.store) c.in_ok-rows.ensures.reads
     (λ own any shown. IfOk-weaker c.at_most_one.result _ _
     (λ row is. subst (QueryShows c.args.query (state g.S.Store c.args.conn.now).now.trees) (sym is) shown) c.at_most_one.ensures.ok)

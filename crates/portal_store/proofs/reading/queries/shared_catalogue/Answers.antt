@@ -12,6 +12,6 @@ returns-in_err-clone-2 g c = reads_short c.from_residual-in_err-clone-2.ensures.
 
 pub returns : goal.returns
 returns g c =
-    reads_more (reads_open (reads_first c.in_ok-shared.ensures))
+    reads_more tt (reads_open (reads_first c.in_ok-shared.ensures))
     (λ own right told. let is = told ∙ catalogue_told c.args.round (state g.S.Store c.args.conn.now).now.trees in
     (record { offers = search (rules, is); office = right.1.office }, is))

@@ -1,3 +1,4 @@
+use Rattle.portal_tables.proofs.InTurn.{its_own}
 use Rattle.portal_store.proofs.Base.{◌∙◌, ◌≡◌, if◌then◌else◌, Good, IfOk-weaker, IsCacheOf, IsNow, Key, OfficeCaller}
 use Rattle.portal_store.proofs.Base.{ap, caller_among, equals, false, has_round, lecturer_with, reads_as, reads_of}
 use Rattle.portal_store.proofs.Base.{reads_open, reads_then_of, reads_wide, sight_of, state, student_with, subst, sym}
@@ -15,7 +16,7 @@ returns-then-eq g c =
     let w = world_in round db.trees in
     let own : equals office.code code ≡ true = sym (ap (λ (k : Key). equals k code) c.as_bytes.ensures.bytes) ∙ sym c.eq.ensures
     ∙ c.if-eq.true in
-    reads_as
+    reads_as (its_own _ r)
     (reads_then_of {Known = λ db. RemembersIn round c.args.cache.now db × IsNow (world_in round db.trees) round office}
     (λ own on right told. let it = now_in db round office right.0 told in
     ((it.0, subst (IsCacheOf c.args.cache.now) it.1 right.1), it.2))
@@ -39,7 +40,7 @@ returns g c =
     let db = (state g.S.Store c.args.conn.now).now in
     let other : equals office.code code ≡ false = sym (ap (λ (k : Key). equals k code) c.as_bytes.ensures.bytes) ∙ sym c.eq.ensures
     ∙ c.if-eq.false in
-    reads_as
+    reads_as (its_own _ r)
     (reads_then_of {Known = RemembersIn round c.args.cache.now}
     (λ own on right told. let it = now_in db round office right.0 told in (it.0, subst (IsCacheOf c.args.cache.now) it.1 right.1))
     (reads_of (λ own. own) (λ own right. right.0.1.sound) c.in_ok-round.ensures)

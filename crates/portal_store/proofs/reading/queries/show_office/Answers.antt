@@ -20,7 +20,7 @@ returns-in_err-copy-2 g c =
 pub returns : goal.returns
 returns g c =
     let office = c.args.office in
-    reads_more (reads_then_of (λ own on right told. has_whole_lists c.args.round _ right.0.0)
+    reads_more tt (reads_then_of (λ own on right told. has_whole_lists c.args.round _ right.0.0)
     (reads_of (λ own. own) (λ own right. right.0) c.in_ok-catalogue.ensures) (reads_open c.in_ok-view.ensures))
     (λ own right told.
     let now = right.1 in

@@ -1,3 +1,4 @@
+use Rattle.portal_tables.proofs.InTurn.{its_own}
 use Rattle.portal_store.proofs.Base.{◌∙◌, if◌then◌else◌, First, IfOk-weaker, Lecturer, OfficeCaller, Option, Round, ap}
 use Rattle.portal_store.proofs.Base.{caller_among, catalogue, lecturer_from, lecturer_with, option_map, reads_as}
 use Rattle.portal_store.proofs.Base.{reads_handed, reads_more, reads_open, reads_then, reads_then_of, sight_of, state}
@@ -32,7 +33,7 @@ returns-in_default g c =
     let r = c.show_student.result in
     let w = world_in c.args.round (state g.S.Store c.args.conn.now).now.trees in
     let code = c.args.code.now in
-    reads_as (reads_then (lecturer_found c.args.code.now (λ o shown. shown) c.in_ok-row.ensures) (reads_open c.show_student.ensures))
+    reads_as (its_own _ r) (reads_then (lecturer_found c.args.code.now (λ o shown. shown) c.in_ok-row.ensures) (reads_open c.show_student.ensures))
     (λ no. no)
     (λ own right told. (
       told.1.0,
@@ -51,7 +52,7 @@ returns g c =
     let code = c.args.code.now in
     let offers = c.in_ok-catalogue.catalogue.value.items in
     let row = c.in-Some.row in
-    reads_more
+    reads_more tt
     (reads_then (lecturer_found c.args.code.now (λ o shown. shown) c.in_ok-row.ensures)
     (reads_then_of (λ own on right told. has_tables _ right.0) c.in_ok-catalogue.ensures c.in_ok-lecturer_view.ensures))
     (λ own right told.

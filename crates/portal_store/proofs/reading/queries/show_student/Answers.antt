@@ -26,7 +26,7 @@ pub returns-in_default : goal.returns-in_default
 returns-in_default g c =
     let round = c.args.round in
     let db = (state g.S.Store c.args.conn.now).now.trees in
-    reads_more (student_found c.args.code.now (λ o shown. shown) c.in_ok-row.ensures)
+    reads_more tt (student_found c.args.code.now (λ o shown. shown) c.in_ok-row.ensures)
     (λ own right told. (
       right.1,
       λ phase. ap (λ (o : Option Student). sight_of (world_in round db) (caller_among None o))
@@ -39,7 +39,7 @@ returns g c =
     let offers = c.in_ok-catalogue.catalogue.value.items in
     let row = c.in-Some.row in
     let db = (state g.S.Store c.args.conn.now).now.trees in
-    reads_more
+    reads_more tt
     (reads_then (student_found c.args.code.now (λ o shown. shown) c.in_ok-row.ensures)
     (reads_then_of (λ own on right told. right.0.sound) c.in_ok-catalogue.ensures c.in_ok-student_view.ensures))
     (λ own right told. (

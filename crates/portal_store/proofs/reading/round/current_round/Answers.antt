@@ -13,7 +13,7 @@ returns g c =
     let s = c.in_ok-second in
     let f = c.in_ok-office in
     let db = (state g.S.Store c.args.conn.now).now.trees in
-    reads_more (reads_any (reads_then s.ensures (reads_open (reads_both f.ensures))))
+    reads_more tt (reads_any (reads_then s.ensures (reads_open (reads_both f.ensures))))
     (λ own sound told. elim (cases_Bool (is_setup s.second)) [
       | inl setup ↦ subst (λ (n : Round × Office). IsNow (world_of db) n.0 n.1) (sym (c.now_of.ensures.first setup))
           (now_first db s.second (told.0 sound) f.office (told.1 sound) setup)

@@ -10,11 +10,11 @@ returns-in_err-second_in g c =
 pub returns-then-is_setup : goal.returns-then-is_setup
 returns-then-is_setup g c =
     let f = c.in_ok-second_in in
-    reads_more (reads_any f.ensures) (λ own sound row. first_by (state g.S.Store c.args.conn.now).now.trees f.field-0 (row sound)
+    reads_more tt (reads_any f.ensures) (λ own sound row. first_by (state g.S.Store c.args.conn.now).now.trees f.field-0 (row sound)
     (sym c.is_setup.ensures ∙ c.if-is_setup.true))
 
 pub returns-else-is_setup : goal.returns-else-is_setup
 returns-else-is_setup g c =
     let f = c.in_ok-second_in in
-    reads_more (reads_any f.ensures) (λ own sound row. second_by (state g.S.Store c.args.conn.now).now.trees f.field-0 (row sound)
+    reads_more tt (reads_any f.ensures) (λ own sound row. second_by (state g.S.Store c.args.conn.now).now.trees f.field-0 (row sound)
     (sym c.is_setup.ensures ∙ c.if-is_setup.false))

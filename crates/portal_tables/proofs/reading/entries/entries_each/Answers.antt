@@ -24,7 +24,7 @@ loop-owner-preserved g c =
     let owner = c.owner-item.result in
     let all = c.loop-owner.entries.items in
     let found = c.in_ok-entry.entry in
-    reads_more (reads_then c.loop-owner.invariant c.in_ok-entry.ensures)
+    reads_more tt (reads_then c.loop-owner.invariant c.in_ok-entry.ensures)
     (λ own sound told. record {
       are = ap (map with_list) c.in_ok-push_some.ensures ∙ map-append with_list all (cons_option found [])
           ∙ ap (λ l. map with_list all ++ l) (map_one with_list found)
@@ -34,11 +34,11 @@ loop-owner-preserved g c =
     })
 
 pub loop-owner-init : goal.loop-owner-init
-loop-owner-init g c = reads_self (λ own sound. record { are = search rules; read = tt })
+loop-owner-init g c = reads_self tt (λ own sound. record { are = search rules; read = tt })
 
 pub returns : goal.returns
 returns g c =
     let db = (state g.S.Store c.args.conn.now).now.trees in
-    reads_more c.loop-owner.invariant
+    reads_more tt c.loop-owner.invariant
     (λ own sound told. subst (λ l. AreEntriesOf c.args.lists db l (map with_list c.loop-owner.entries.items))
     (take_all c.loop-owner.owner-index c.args.owners.now (omega (arith, c.loop-owner-test.false))) told)

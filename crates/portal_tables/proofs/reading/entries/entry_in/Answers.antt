@@ -1,7 +1,7 @@
 use Rattle.portal_tables.proofs.Base.{sym, ap, subst, ◌∙◌, Err, if◌then◌else◌, Some, None, state, tree_of}
 use Rattle.portal_tables.proofs.Base.{list_in_order, IsListOf}
 use Rattle.portal_tables.proofs.Listed.{none_chosen}
-use Rattle.portal_tables.proofs.InTurn.{reads_open, reads_of, reads_then, reads_more, reads_handed, judged, both}
+use Rattle.portal_tables.proofs.InTurn.{reads_open, reads_of, reads_then, reads_more, reads_handed, judged, both, not_stores}
 use Rattle.portal_tables.proofs.reading.entries.entry_in.Goals as goal
 
 pub returns-in_err-is_there : goal.returns-in_err-is_there
@@ -15,7 +15,7 @@ returns g c =
     let table = (state g.S.Store c.args.conn.now).now.trees (tree_of c.args.lists) in
     let key = c.in_ok-key.ensures.ok in
     let r = c.kept_entry.result in
-    reads_more (reads_then (reads_open (reads_of (λ own. own) (λ own sound. tt) c.in_ok-list.ensures)) c.in_ok-is_there.ensures.reads)
+    reads_more (not_stores r c.kept_entry.ensures.store) (reads_then (reads_open (reads_of (λ own. own) (λ own sound. tt) c.in_ok-list.ensures)) c.in_ok-is_there.ensures.reads)
     (λ own sound told.
     let list = subst (λ k. IsListOf k table c.in_ok-list.list.items) key told.0 in
     let there = told.1 in

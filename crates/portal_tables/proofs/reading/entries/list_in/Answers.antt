@@ -1,7 +1,7 @@
 use Rattle.portal_tables.proofs.Base.{◌≡◌, ◌∷◌, true, [], sym, subst, subst₂, ◌∙◌, AllByRecursion, state, is_key}
 use Rattle.portal_tables.proofs.Base.{ListsBy, has_text, columns, tree_of, shown_name, all_unmap, ap, Err}
 use Rattle.portal_tables.proofs.Listed.{list_whole, list_names, list_counts}
-use Rattle.portal_tables.proofs.InTurn.{reads_more, judged, both, reads_handed}
+use Rattle.portal_tables.proofs.InTurn.{reads_more, judged, both, reads_handed, not_stores}
 use Rattle.portal_tables.proofs.reading.entries.list_in.Goals as goal
 
 pub returns : goal.returns
@@ -10,7 +10,7 @@ returns g c =
     let table = (state g.S.Store c.args.conn.now).now.trees (tree_of c.args.lists) in
     let rows = c.deref.result.now in
     let e = c.list_from.ensures in
-    reads_more c.in_ok-rows.ensures.reads
+    reads_more (not_stores c.list_from.result e.store) c.in_ok-rows.ensures.reads
     (λ own any shown.
     let h : ListsBy (2 ∷ []) (has_text 1 owner) (columns (2 ∷ 3 ∷ [])) table rows =
     subst₂ (λ key rows. ListsBy (2 ∷ []) (has_text 1 key) (columns (2 ∷ 3 ∷ [])) table rows) c.as_bytes.ensures.bytes

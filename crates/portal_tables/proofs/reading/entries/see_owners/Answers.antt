@@ -11,7 +11,7 @@ returns g c =
     let table = (state g.S.Store c.args.conn.now).now.trees (tree_of c.args.lists) in
     let rows = c.in_ok-rows.rows.items in
     let Known : Key → Type 0 = λ k. has (map first_cell c.args.owners.now) k ≡ true in
-    reads_more c.in_ok-rows.ensures.reads
+    reads_more (λ its. absurd (cc)) c.in_ok-rows.ensures.reads
     (λ own any shown blamed owned.
     let named : AllByRecursion (λ r. Known (first_cell r)) rows =
     all_permuted (λ r. Known (first_cell r)) _ rows (permuted _ _ _ table rows shown)

@@ -1,6 +1,6 @@
 use Rattle.portal_tables.proofs.Base.{◌∷◌, [], Err, sym, ap, subst, ◌∙◌, state, portal_tree, ListsBy, every, columns}
 use Rattle.portal_tables.proofs.Base.{IfOk-weaker}
-use Rattle.portal_tables.proofs.InTurn.{reads_more, answered, reads_handed}
+use Rattle.portal_tables.proofs.InTurn.{reads_more, answered, reads_handed, not_stores}
 use Rattle.portal_tables.proofs.OfficeRow.{office_found, office_there}
 use Rattle.portal_tables.proofs.reading.office.office_in.Goals as goal
 
@@ -8,7 +8,7 @@ pub returns : goal.returns
 returns g c =
     let now = (state g.S.Store c.args.conn.now).now in
     let found = c.office_from in
-    reads_more c.in_ok-rows.ensures.reads
+    reads_more (not_stores found.result found.ensures.store) c.in_ok-rows.ensures.reads
     (λ own any shown.
     let h : ListsBy (0 ∷ []) every (columns (0 ∷ 2 ∷ 3 ∷ 4 ∷ [])) (now.trees portal_tree) c.deref.result.now =
     subst (ListsBy (0 ∷ []) every (columns (0 ∷ 2 ∷ 3 ∷ 4 ∷ [])) (now.trees portal_tree)) (sym c.deref.ensures.value) shown in

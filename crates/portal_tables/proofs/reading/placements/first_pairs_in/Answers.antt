@@ -1,6 +1,6 @@
 use Rattle.portal_tables.proofs.Base.{◌∷◌, first_pair, [], ap, sym, subst, ◌∙◌, IfOk-weaker, AllByRecursion, filter_map}
 use Rattle.portal_tables.proofs.Base.{state, student_tree, OfRoll, Students, HasPairKeys}
-use Rattle.portal_tables.proofs.InTurn.{reads_more, reads_handed, judged}
+use Rattle.portal_tables.proofs.InTurn.{reads_more, reads_handed, judged, not_stores}
 use Rattle.portal_tables.proofs.Listed.{roll_rises, roll_shown}
 use Rattle.portal_tables.proofs.Texts.{key_texts}
 use Rattle.portal_tables.proofs.reading.placements.first_pairs_in.Goals as goal
@@ -16,7 +16,7 @@ pub returns : goal.returns
 returns g c =
     let table = (state g.S.Store c.args.conn.now).now.trees student_tree in
     let rows = c.in_ok-rows in
-    reads_more rows.ensures.reads
+    reads_more (not_stores c.pairs_from.result c.pairs_from.ensures.store) rows.ensures.reads
     (λ own any shown.
     let same = c.deref.ensures.value ∙ roll_shown (4 ∷ []) table rows.rows.items shown rows.ensures.rise in
     judged c.pairs_from.result _ _ (IfOk-weaker c.pairs_from.result _ _

@@ -22,17 +22,17 @@ returns-in_err-push_some g c = reads_short c.from_residual-in_err-push_some.ensu
 pub loop-row-preserved : goal.loop-row-preserved
 loop-row-preserved g c =
     let f = pair_shown c.args.round c.args.phase (state g.S.Store c.args.conn.now).now.trees in
-    reads_more (reads_then c.loop-row.invariant c.in_ok-pair.ensures)
+    reads_more tt (reads_then c.loop-row.invariant c.in_ok-pair.ensures)
     (λ own sound told.
     c.in_ok-push_some.ensures
     ∙ next_given f c.args.rows.now c.loop-row.row-index c.row-item.result c.loop-row.pairs.items c.in_ok-pair.pair c.row-item.is
     c.loop-row-test.true told.0 told.1)
 
 pub loop-row-init : goal.loop-row-init
-loop-row-init g c = reads_self (λ own sound. search rules)
+loop-row-init g c = reads_self tt (λ own sound. search rules)
 
 pub returns : goal.returns
 returns g c =
     let f = pair_shown c.args.round c.args.phase (state g.S.Store c.args.conn.now).now.trees in
-    reads_more c.loop-row.invariant (λ own sound is. is
+    reads_more tt c.loop-row.invariant (λ own sound is. is
     ∙ ap (filter_map f) (take_all c.loop-row.row-index c.args.rows.now (omega (arith, c.loop-row-test.false))))

@@ -5,6 +5,6 @@ use Rattle.portal_tables.proofs.reading.row_numbers.row_numbers_differ.Goals as 
 
 pub returns : goal.returns
 returns g c =
-    reads_more c.in_ok-rows.ensures.reads
+    reads_more tt c.in_ok-rows.ensures.reads
     (λ own any shown right. apart_of ((state g.S.Store c.args.conn.now).now.trees (table_tree c.args.table)) c.in_ok-rows.rows.items shown
     (subst (λ rows. rises None rows ≡ true) c.deref.ensures.value (c.numbers_rise.ensures right)))

@@ -14,6 +14,6 @@ returns-in_err-students g c =
 
 pub returns : goal.returns
 returns g c =
-    reads_more (reads_then c.in_ok-lecturers.ensures
+    reads_more tt (reads_then c.in_ok-lecturers.ensures
     (reads_open (reads_then c.in_ok-projects.ensures (reads_open c.in_ok-students.ensures))))
     (λ own right told. record { lecturers_are = told.0; projects_are = told.1.0; students_are = told.1.1 })

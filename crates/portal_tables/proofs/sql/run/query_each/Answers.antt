@@ -1,6 +1,7 @@
 use Rattle.portal_tables.proofs.Base.{◌≡◌, [], rules, refl, sym, ap, subst, ◌∙◌, Ok, Err, option_copied, Memory}
 use Rattle.portal_tables.proofs.Base.{Advances, bound, given_begin, HasGiven, ShowsAs, ReadsEach}
-use Rattle.portal_tables.proofs.Decoded.{leaves_refused, leaves_stopped, leaves_way, begun, goes_on, broken}
+use Rattle.portal_tables.proofs.InTurn.{clean_before}
+use Rattle.portal_tables.proofs.Decoded.{stops_refused, stops_after, leaves_refused, leaves_stopped, leaves_way, begun, goes_on, broken}
 use Rattle.portal_tables.proofs.Decoded.{refused_row, all_read, ended, one_more}
 use Rattle.portal_tables.proofs.sql.run.query_each.Goals as goal
 
@@ -12,6 +13,9 @@ returns-in_err-rows g c =
     (leaves_refused g.S.Store c.args.sql.now
     (bound c.args.params.now) c.args.conn.now c.query.follows.lender-at-none c.query.result c.in_err-rows.field-0.0 c.in_err-rows.was
     c.query.follows.holds-at-none r c.from_residual.ensures.0)
+    (λ plain clean f gives its. stops_refused g.S.Store c.args.sql.now
+    (bound c.args.params.now) c.args.conn.now c.query.follows.lender-at-none c.query.result c.in_err-rows.field-0.0 c.in_err-rows.was
+    c.query.follows.holds-at-none (λ none. let short = gives.0.1 none in absurd (cc)) clean)
 
 pub rows-init : goal.rows-init
 rows-init g c =
@@ -39,7 +43,12 @@ returns-in_err-advance g c =
     (bound c.args.params.now) c.args.conn.now c.advance.new.self.conn.now r _ c.from_residual-in_err-advance.ensures.1
     (λ f gives. gives.1)
     (leaves_stopped g.S.Store c.args.sql.now c.args.conn.now c.rows.rows.conn.now inv.under_way c.advance.new.self.conn.now moved.mode
-    moved.survives r c.from_residual-in_err-advance.ensures.0 _ c.in_err-advance.ensures.kept))
+    moved.survives r c.from_residual-in_err-advance.ensures.0 _ c.in_err-advance.ensures.kept)
+    (λ plain clean f gives its.
+    let given = inv.under_way.given plain (clean_before _ _ _ moved.survives clean) in
+    stops_after g.S.Store c.args.sql.now c.args.conn.now c.rows.rows.conn.now inv.under_way c.advance.new.self.conn.now moved.mode
+    moved.survives (bound c.args.params.now) given.rows plain clean given.shown _
+    (λ none. let short = gives.0.1 none in absurd (cc)) c.in_err-advance.ensures.err))
 
 pub returns-in_default : goal.returns-in_default
 returns-in_default g c =
@@ -74,7 +83,7 @@ returns-in_err-from_cells g c =
     (refused_row g.S.Store g.T.FromCells.shown g.T.FromCells.is_fine c.args.sql.now
     (bound c.args.params.now) c.args.conn.now new c.from_residual-in_err-from_cells.result _ c.from_residual-in_err-from_cells.ensures.1
     row
-    (λ damaged. c.in_err-from_cells.ensures.damaged (ap Err damaged))
+    (λ damaged. c.in_err-from_cells.ensures.damaged (ap Err damaged)) (λ its. c.in_err-from_cells.ensures.store (ap Err its))
     (goes_on g.S.Store c.args.sql.now c.args.conn.now c.rows.rows.conn.now inv.under_way new moved.mode moved.survives
     c.in_ok-advance.ensures.same
     (λ plain clean same given. (
@@ -99,7 +108,7 @@ returns-in_err-push g c =
     (bound c.args.params.now) c.args.conn.now new r _ c.from_residual-in_err-push.ensures.1 (λ f is damaged. absurd (cc))
     (leaves_way g.S.Store c.args.sql.now c.args.conn.now new
     (goes_on g.S.Store c.args.sql.now c.args.conn.now c.rows.rows.conn.now inv.under_way new moved.mode moved.survives
-    c.in_ok-advance.ensures.same (λ plain clean same given. given)) r))
+    c.in_ok-advance.ensures.same (λ plain clean same given. given)) r) (λ plain clean f is its. absurd (cc)))
 
 pub rows-preserved : goal.rows-preserved
 rows-preserved g c =
@@ -126,4 +135,5 @@ returns g c =
     (Err Memory) c.args.conn.now h) (sym last)
     (broken g.S.Store g.T.FromCells.shown g.T.FromCells.is_fine c.args.sql.now
     (bound c.args.params.now) c.args.conn.now c.rows.rows.conn.now (Err Memory) (λ f. f ≡ Memory) refl (λ f is damaged. absurd (cc))
-    (leaves_way g.S.Store c.args.sql.now c.args.conn.now c.rows.rows.conn.now inv.under_way (Err Memory)))
+    (leaves_way g.S.Store c.args.sql.now c.args.conn.now c.rows.rows.conn.now inv.under_way (Err Memory))
+    (λ plain clean f is its. absurd (cc)))

@@ -2,6 +2,7 @@ use Rattle.portal_tables.proofs.Base.{◌∙◌, ap, IfOk-weaker, state, bound, 
 use Rattle.portal_tables.proofs.Decoded.{never_commits}
 use Rattle.portal_tables.proofs.Queries.{shown_same, failed_leaves}
 use Rattle.portal_tables.proofs.Repeated.{answers, fails}
+use Rattle.portal_tables.proofs.Reasons.{reason}
 use Rattle.portal_tables.proofs.Shows.{asks, shows}
 use Rattle.portal_tables.proofs.sql.select.read.Goals as goal
 
@@ -16,6 +17,7 @@ returns-clause-reads g c =
     (λ plain clean. IfErr-weaker c.query_all.result _ _ (λ e. failed_leaves _ _ old new e plain) (it.err clean)) it.mode
     (survives_weaker old new _ _ (λ _ db made plain. never_commits _ _ old db plain made) it.survives)
     (λ own clean. IfOk-weaker c.query_all.result _ _ (λ v. shows c.args.query _ _ c.text.ensures values old new v.items own) (it.ok clean))
+    (λ own clean. IfErr-weaker c.query_all.result _ _ (λ e. reason c.args.query _ _ c.text.ensures values old new e own) (it.err clean))
 
 pub returns-clause-answers : goal.returns-clause-answers
 returns-clause-answers g c clean =

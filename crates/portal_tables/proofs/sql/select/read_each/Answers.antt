@@ -1,7 +1,8 @@
 use Rattle.portal_tables.proofs.Base.{◌∙◌, Err, ap, IfOk-weaker, state, bound}
 use Rattle.portal_tables.proofs.Decoded.{none_refused}
 use Rattle.portal_tables.proofs.Shows.{plain, shows, ends, asks}
-use Rattle.portal_tables.proofs.InTurn.{answered}
+use Rattle.portal_tables.proofs.InTurn.{answered, IfErr-known}
+use Rattle.portal_tables.proofs.Reasons.{stop_reason}
 use Rattle.portal_tables.proofs.sql.select.read_each.Goals as goal
 
 pub returns-clause-reads : goal.returns-clause-reads
@@ -23,3 +24,5 @@ returns-clause-reads g c =
     (λ e is blamed. none_refused g.T.FromCells.is_fine _ c.text.result.now (bound c.values.result.now) old new sure
     (λ rows. shows c.args.query _ _ c.text.ensures values old new rows own) (ends c.args.query _ _ c.text.ensures values schema own)
     (it.refused sure clean (is ∙ ap Err blamed))))
+    (λ own clean. IfErr-known c.query_each.result _ (λ e is its. stop_reason c.args.query _ _ c.text.ensures values old new own
+    (it.stopped (plain c.args.query _ _ c.text.ensures values schema) clean (is ∙ ap Err its))))
