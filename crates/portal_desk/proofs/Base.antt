@@ -38,7 +38,7 @@ pub use Rattle.portal_desk.specs.inner.Reading.{Follows, Heads, NoneWhole, Reads
 pub use Rattle.portal_desk.specs.inner.Turns.{Broke, Partly, Replied}
 pub use Rattle.portal_frame.specs.Stream.{RequestContent, Opens, Faulty, is_head, refusal_content, request_content}
 pub use Rattle.portal_frame.specs.Stream.{Whole, Framed, IsWithinLimits}
-pub use Rattle.portal_frame.specs.Stream.{Over, item_of, after_lines, asked_of, fields_of, body_length, bad_length}
+pub use Rattle.portal_frame.specs.Stream.{Over, item_of, after_lines, asked_of, fields_of, body_length, RefusalContent}
 pub use Rattle.portal_frame.specs.declared.types.Frame.{Frame}
 pub use Rattle.portal_frame.specs.Stream.{request_limit}
 pub use Rattle.portal_wire.specs.Conversation.{connection_limit}

@@ -5,7 +5,7 @@ use Rattle.portal_desk.proofs.Base.{Frame, Opens, Whole, Faulty, request_content
 use Rattle.portal_desk.proofs.Base.{is_head, ReadsMore, Heads}
 use Rattle.portal_desk.proofs.Base.{Follows, NoneWhole, IsTrue, ◌≢◌, Ok, Err, leb-true, not_headless, Framed}
 use Rattle.portal_desk.proofs.Base.{IsWithinLimits, Over, item_of, after_lines, asked_of, fields_of, body_length}
-use Rattle.portal_desk.proofs.Base.{bad_length, IsWithin, Cause, Result, IfErr}
+use Rattle.portal_desk.proofs.Base.{RefusalContent, IsWithin, Cause, Result, IfErr}
 use Rattle.httparse.specs.Grammar.{RequestHead}
 use Rattle.httparse.proofs.GrammarLemmas.{request_unique}
 use Rattle.portal_frame.specs.declared.types.Frame.TheVariants as frame
@@ -36,17 +36,17 @@ pub within : (buffer : List ℕ) (f : Frame) → IsWithinLimits buffer f → IsW
 within buffer (frame.Request request used) limits = (limits.1, limits.2)
 within buffer _ limits = tt
 
-too_short : (n : ℕ) (rest : List ℕ) (short : length rest < n) (h : RequestHead) (b : Bool) (a : RequestContent) (after : List ℕ)
+too_short : (n : ℕ) (rest : List ℕ) (short : length rest < n) (h : RequestHead) (why : RefusalContent) (b : Bool) (a : RequestContent) (after : List ℕ)
     → nat_le n (length rest) ≡ b
-    → Whole a after ≡ (if b then Whole (asked_of h (take n rest)) (drop n rest) else Faulty bad_length (is_head h.method)) → ⊥
-too_short n rest short h true a after le e = omega (arith, short, leb-true n (length rest) le)
-too_short n rest short h false a after le e = absurd (cc)
+    → Whole a after ≡ (if b then Whole (asked_of h (take n rest)) (drop n rest) else Faulty why (is_head h.method)) → ⊥
+too_short n rest short h why true a after le e = omega (arith, short, leb-true n (length rest) le)
+too_short n rest short h why false a after le e = absurd (cc)
 
 sized : (h : RequestHead) (n : ℕ) (rest : List ℕ) (r : _) → length rest < n → r ≡ Ok n
     → (a : RequestContent) (after : List ℕ)
     → Whole a after ≡ after_lines h r rest → ⊥
 sized h n rest (Ok m) short e a after is =
-    too_short n rest short h (nat_le n (length rest)) a after refl (subst (λ r. Whole a after ≡ after_lines h r rest) e is)
+    too_short n rest short h _ (nat_le n (length rest)) a after refl (subst (λ r. Whole a after ≡ after_lines h r rest) e is)
 sized h n rest (Err x) short e a after is = absurd (cc)
 
 pub none_whole : (bytes : List ℕ) (ended : Bool) → Framed bytes ended frame.Need → NoneWhole bytes

@@ -1,7 +1,7 @@
 -- What one exchange more does to a keeper, and what a stop may leave after it.
 use Rattle.portal_desk.proofs.Base.{inl, inr, List, [], ◌∷◌, ◌++◌, refl, sym, ap, ◌∙◌, subst, append_assoc, World}
 use Rattle.portal_desk.proofs.Base.{Answer, Wanted, Serves, Exchange, Reaches, KeeperState, DeskState, Moves, Worked}
-use Rattle.portal_desk.proofs.Base.{FailsByCount, MayReach, Acted, LastsOrBreaks, LeavesBy, MayLeave, Bool}
+use Rattle.portal_desk.proofs.Base.{FailsByCount, MayReach, Acted, Bool}
 use Rattle.portal_desk.proofs.Base.{RequestContent}
 use Rattle.portal_desk.proofs.Base.{request_of}
 use Rattle.portal_desk.proofs.Failing.{fails_then, fails_none}

@@ -1,7 +1,8 @@
 -- Refutes a store that opens tables without a good world, of another version or with a refused query, tells
--- another fault, changes what it refuses, disowns its tables, or leaves a change uncommitted or half done.
+-- another fault or want of memory as its own, changes what it refuses, disowns its tables, or leaves a change
+-- uncommitted or half done.
 use Rattle.std.proofs.Common.{◌≡◌, ◌⊎◌, inl, inr, true, false, List, [], ◌∷◌, length, refl, sym, ap, ◌∙◌, subst, arith, Ok, Err}
-use Rattle.std.specs.Prelude.{codes, pos, slice_index_or, Bool, IsErr, IsTrue, Result}
+use Rattle.std.specs.Prelude.{codes, pos, slice_index_or, Bool, IsErr, IsSome, IsTrue, None, Result}
 use Rattle.sqlite.specs.Effect.{Database}
 use Rattle.sqlite.specs.Held.{Held, state}
 use Rattle.sqlite.specs.Order.{Row, column}
@@ -18,6 +19,9 @@ use Rattle.sqlite_trees.specs.Objects.{number_in}
 use Rattle.portal_list.proofs.Fresh.{fresh_good}
 use Rattle.portal_rules.specs.declared.phase.Phase.TheVariants.{Choosing, Ranking, Setup}
 use Rattle.portal_rules.specs.declared.phase.Round.TheVariants.{First}
+use Rattle.portal_rules.specs.Good.{Good}
+use Rattle.portal_rules.specs.declared.keeper.KeepFault.TheVariants as keep
+use Rattle.portal_tables.specs.Reads.{HasReason}
 use Rattle.portal_rules.specs.World.{World, Change, To, changed, is_setup}
 use Rattle.portal_tables.specs.Making.{has_names}
 use Rattle.portal_tables.specs.Rows.{portal_row, second_row}
@@ -28,7 +32,7 @@ use Rattle.portal_tables.specs.QueryTexts.{query_text}
 use Rattle.portal_tables.specs.declared.sql.names.Names.TheVariants.{All, OfSecond}
 use Rattle.portal_tables.specs.declared.sql.select.Query.TheVariants.{Whole}
 use Rattle.portal_tables.specs.declared.sql.select.RollTable.TheVariants.{Students}
-use Rattle.portal_store.specs.Calls.{ChangesTables, CreatesStore, OpensStore, RefusesToCreate, RefusesToOpen}
+use Rattle.portal_store.specs.Calls.{ChangesTables, CreatesStore, HasStoreReason, OpensStore, RefusesToCreate, RefusesToOpen}
 use Rattle.portal_store.specs.Calls.{RefusesToUpgrade, StaysStore, UpgradesStore}
 use Rattle.portal_store.specs.Crash.{HasVersion, IsAnswered, IsLeft, IsRejected, Passes, RefusesOne, IsTrueOfOpening}
 use Rattle.portal_store.specs.Crash.{IsTrueOfQueries, ShowsOffice, ShowsVersion, first_queries, later_queries}
@@ -89,6 +93,14 @@ change_that_is_left_out_is_no_transition old new was is changes =
     subst (λ (t : Trees). world_of t ≡ changed (world_of fresh) (To Choosing)) is
     (subst (λ (t : Trees). world_of new.trees ≡ changed (world_of t) (To Choosing)) was changes.world) in
     let clash : true ≡ false = ap (λ (w : World). is_setup w.phase) both in cc
+
+-- ---- a connection over which nothing failed
+
+-- an open connection whose disk never failed, and without a limit
+no_reason : (s : State) → IsTrue s.is_open → s.faults ≡ 0 → s.step_limit ≡ None → HasReason s s → ⊥
+no_reason s on none unlimited (inl more) = omega (arith, more, none)
+no_reason s on none unlimited (inr (inl shut)) = let clash : true ≡ false = sym on ∙ shut in cc
+no_reason s on none unlimited (inr (inr limit)) = subst IsSome unlimited limit
 
 -- ---- tables of which one is missing
 
@@ -337,6 +349,16 @@ module _ {S : Type 0} (g : Ghosts S) where
 
   pub disowned_store_does_not_stay : (old new : StoreState S) → old.own ≡ true → new.own ≡ false → StaysStore g old new → ⊥
   disowned_store_does_not_stay old new was is stays = let clash : false ≡ true = sym is ∙ (stays.own ∙ was) in cc
+
+  -- want of memory that is told as a fault of the store: nothing failed, and queries have no limit
+  pub memory_told_as_the_stores_fault_has_no_reason : {V : Type 0} (s : StoreState S) → IsCleanStore g s → Good (kept_world g s)
+      → HasDisk g s → (state g s.conn).faults ≡ 0 → (state g s.conn).step_limit ≡ None
+      → HasStoreReason {V = V} g (Err keep.Store) s s → ⊥
+  memory_told_as_the_stores_fault_has_no_reason s clean good disk none unlimited reason =
+      no_reason (state g s.conn) clean.1 none unlimited (reason clean good disk refl)
+
+  pub memory_told_as_such_needs_none : {V : Type 0} (s : StoreState S) → HasStoreReason {V = V} g (Err keep.Memory) s s
+  memory_told_as_such_needs_none s clean good disk is = absurd (cc)
 
   pub change_answered_before_its_commit_is_not_committed : {A E : Type 0} (x : A) (change : Change)
       (old new : StoreState S) → IsTrue old.own → HasDisk g new

@@ -30,3 +30,6 @@ pub mod SecondRanks
 pub mod SecondRows
 pub mod Still
 pub mod Upgraded
+pub mod Readable
+pub mod Identified
+pub mod Reasons

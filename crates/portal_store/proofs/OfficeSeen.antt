@@ -18,7 +18,7 @@ use Rattle.portal_store.proofs.Loaded.{found_alike, some_mapped}
 use Rattle.portal_store.proofs.Queried.{student_is}
 
 -- consistent tables have whole lists
-own_whole : (round : Round) (db : Trees) → AreWhole round db → Whole round db
+pub own_whole : (round : Round) (db : Trees) → AreWhole round db → Whole round db
 own_whole First db h = h
 own_whole Second db h = h.1
 

@@ -1,16 +1,20 @@
 -- What the calls of a store promise: those that make one, those that refuse to, and those of a keeper.
-use Rattle.std.specs.Prelude.{◌≡◌, ◌↔◌, Result, false, OnOk, IsTrue}
+use Rattle.std.specs.Prelude.{◌≡◌, ◌↔◌, Result, false, IfErr, OnOk, IsTrue}
 use Rattle.sqlite.specs.Held.{Held, state}
 use Rattle.sqlite.specs.State.{HasCleanDisk, IsUnchanged, Survives}
 use Rattle.sqlite.specs.Store.{Ghosts}
 use Rattle.sqlite.specs.Tree.{Trees}
 use Rattle.portal_rules.specs.Words.{Key}
 use Rattle.portal_rules.specs.World.{Change}
+use Rattle.portal_rules.specs.Good.{Good}
 use Rattle.portal_rules.specs.Keeping.{IsSettled, KeepsGood}
+use Rattle.portal_rules.specs.declared.keeper.KeepFault.{KeepFault}
+use Rattle.portal_rules.specs.declared.keeper.KeepFault.TheVariants as keep
 use Rattle.portal_rules.specs.declared.phase.Round.TheVariants.{First}
 use Rattle.portal_tables.specs.Tables.{IsCurrentSchema, IsFirstSchema, no_schema}
 use Rattle.portal_tables.specs.Making.{Creates, Upgrades, has_names}
 use Rattle.portal_tables.specs.declared.sql.names.Names.TheVariants.{All, OfSecond}
+use Rattle.portal_tables.specs.Reads.{HasReason}
 use Rattle.portal_tables.specs.Steps.{Commits, IsAfter, LeavesOnly, Stays}
 use Rattle.portal_store.specs.World.{first_world, world_in}
 use Rattle.portal_store.specs.Kept.{HasDisk, IsCleanStore, IsConsistent, IsTransition, Lasts, LeavesConsistent, StoreState}
@@ -120,6 +124,13 @@ pub record StaysStore {S : Type 0} (g : Ghosts S) (old new : StoreState S) : Typ
   pub own : new.own ≡ old.own
   -- a clean store stays clean unless the disk fails
   pub lasts : Lasts g old new
+
+-- A call that only looks at a clean store of a good world answers `Store` for a reason: the disk failed
+-- in the call, or a limit is set on the steps of queries.
+abbrev pub HasStoreReason : {S V : Type 0} → Ghosts S → Result V KeepFault → StoreState S → StoreState S → Type 0
+HasStoreReason g r old new =
+    IsCleanStore g old → Good (kept_world g old) → HasDisk g new
+    → IfErr r (λ fault. fault ≡ keep.Store → HasReason (state g old.conn) (state g new.conn))
 
 -- what a change does to own tables
 pub record ChangesTables {S V E : Type 0} (g : Ghosts S) (change : Change) (r : Result V E)

@@ -115,6 +115,7 @@ pub(crate) fn upgrade_fault_of(fault: OpenFault) -> UpgradeFault
 pub(crate) fn count_fault(faults: &mut u64, fault: TableFault) -> KeepFault
     ensures memory { result ≡ KeepFault.Memory → faults.new ≡ faults.old }
     ensures store { result ≡ KeepFault.Store → faults.new ≡ faults.old + 1 }
+    ensures other { result ≡ KeepFault.Store → fault ≢ TableFault.Memory }
     ensures kind { faults.old ≢ 2 ^ 64 - 1
         → (result ≡ KeepFault.Memory) ↔ (fault ≡ TableFault.Memory) }
 {
@@ -136,6 +137,7 @@ pub(crate) fn count_outcome<T>(
     outcome: Result<T, TableFault>,
 ) -> Result<T, KeepFault>
     ensures same { IsSameUpToFault outcome result }
+    ensures other { result ≡ Err KeepFault.Store → outcome ≢ Err TableFault.Memory }
     ensures counts { CountsFaults result faults.old faults.new }
     ensures kind { faults.old ≢ 2 ^ 64 - 1
         → (result ≡ Err KeepFault.Memory) ↔ (outcome ≡ Err TableFault.Memory) }

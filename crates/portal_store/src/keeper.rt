@@ -1,6 +1,6 @@
 //! Implements `Keeper` for the store; `Store::office_code` returns the office's code.
 
-ghost use Rattle.std.specs.Prelude.{◌≡◌, IfErr, IfOk, OnOk, IsTrue};
+ghost use Rattle.std.specs.Prelude.{◌≡◌, IfErr, IfOk, OnErr, OnOk, IsTrue};
 ghost use Rattle.portal_rules.specs.World.{changed};
 ghost use Rattle.portal_rules.specs.Keeping.{Changes, IsAlive, KeepsGood, Looks};
 ghost use Rattle.portal_rules.specs.Meaning.{change_model};
@@ -8,7 +8,7 @@ ghost use Rattle.portal_rules.specs.Good.{Good};
 ghost use Rattle.portal_rules.specs.View as seen;
 ghost use Rattle.portal_rules.specs.Good as meant_by;
 ghost use Rattle.portal_tables.specs.Tables.{IsCurrentSchema};
-ghost use Rattle.portal_store.specs.Calls.{ChangesTables, StaysStore};
+ghost use Rattle.portal_store.specs.Calls.{ChangesTables, HasStoreReason, StaysStore};
 ghost use Rattle.portal_store.specs.Kept.{IsCleanStore, kept_state, kept_world};
 
 use crate::changing::change::commit_change;
@@ -28,6 +28,7 @@ impl<S: Alter> Store<S> {
     /// Otherwise returns `Store`.
     fn check_own(&self) -> Result<(), TableFault>
         ensures own { IsTrue self.now.own → OnOk result (IsCurrentSchema self.now.conn.schema) }
+        ensures fits { IsCurrentSchema self.now.conn.schema → OnErr result ⊥ }
         ensures store { IfErr result (λ fault. fault ≡ TableFault.Store) }
     {
         if !self.own || self.pattern.fits(&self.conn) {
@@ -43,6 +44,7 @@ impl<S: Alter> Store<S> {
         ensures alive { OnOk result (IsAlive (kept_state S.Store self.new)) }
         ensures code { IsCleanStore S.Store self.new
             → IfOk result (λ code. code ≡ (kept_world S.Store self.old).office) }
+        ensures reason { HasStoreReason S.Store result self.old self.new }
         ensures store { StaysStore S.Store self.old self.new }
     {
         if let Err(fault) = self.check_own() {
@@ -63,6 +65,7 @@ impl<S: Alter> Keeper for Store<S> {
         ensures shown { IfOk result (λ view. IsCleanStore S.Store self.new
             → Good (kept_world S.Store self.old)
             → view ≡ seen.view (kept_world S.Store self.old) code.now) }
+        ensures reason { HasStoreReason S.Store result self.old self.new }
         ensures store { StaysStore S.Store self.old self.new }
     {
         if let Err(fault) = self.check_own() {

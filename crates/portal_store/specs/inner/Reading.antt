@@ -1,5 +1,5 @@
 -- What is known of the tables while they are read, and what is remembered.
-use Rattle.std.specs.Prelude.{◌≡◌, List, Option, Result, Ok, Err, IfOk, IsTrue}
+use Rattle.std.specs.Prelude.{◌≡◌, List, Option, Result, Ok, Err, IfOk, IsTrue, MatchResult}
 use Rattle.sqlite.specs.Order.{Row}
 use Rattle.sqlite.specs.Effect.{Database, IsDatabase}
 use Rattle.sqlite.specs.Held.{Held, state}
@@ -16,7 +16,8 @@ use Rattle.portal_tables.specs.inner.Changes.{every}
 use Rattle.portal_tables.specs.inner.Queries.{selection}
 use Rattle.portal_tables.specs.declared.reading.office.Office.{Office}
 use Rattle.portal_tables.specs.declared.sql.select.Query.{Query}
-use Rattle.portal_tables.specs.Reads.{HasRound}
+use Rattle.portal_tables.specs.Reads.{Blames, HasRound}
+use Rattle.portal_tables.specs.declared.fault.TableFault.{TableFault}
 use Rattle.portal_store.specs.Kept.{IsConsistent, IsConsistentIn}
 use Rattle.portal_store.specs.inner.Keeping.{AreEntries}
 use Rattle.portal_store.specs.World.{world_in, world_of}
@@ -47,17 +48,21 @@ pub record IsNow (w : World) (round : Round) (office : Office) : Type 0 where
 abbrev pub Remembers : ViewCache → Database → Type 0
 Remembers cache db = IsConsistent db × IsCacheOf cache (world_of db.trees)
 
--- what is remembered is right, and the answer is this of the world
-abbrev pub ShowsWorld : {V E : Type 0} → ViewCache → (World → V → Type 0) → Database → Result V E → Type 0
-ShowsWorld cache Answer db result = IsCacheOf cache (world_of db.trees) × IfOk result (Answer (world_of db.trees))
+-- what is remembered is right, and the answer is this of the world;
+-- if it is good, the rows are not refused
+abbrev pub ShowsWorld : {V : Type 0} → ViewCache → (World → V → Type 0) → Database → Result V TableFault → Type 0
+ShowsWorld cache Answer db result =
+    IsCacheOf cache (world_of db.trees)
+    × MatchResult result (Answer (world_of db.trees)) (λ fault. Blames fault (Good (world_of db.trees)))
 
 -- the same of tables of a round
 abbrev pub RemembersIn : Round → ViewCache → Database → Type 0
 RemembersIn round cache db = IsConsistentIn round db × IsCacheOf cache (world_in round db.trees)
 
-abbrev pub ShowsWorldIn : {V E : Type 0} → Round → ViewCache → (World → V → Type 0) → Database → Result V E → Type 0
+abbrev pub ShowsWorldIn : {V : Type 0} → Round → ViewCache → (World → V → Type 0) → Database → Result V TableFault → Type 0
 ShowsWorldIn round cache Answer db result =
-    IsCacheOf cache (world_in round db.trees) × IfOk result (Answer (world_in round db.trees))
+    IsCacheOf cache (world_in round db.trees)
+    × MatchResult result (Answer (world_in round db.trees)) (λ fault. Blames fault (Good (world_in round db.trees)))
 
 -- the same result, with another fault for a fault
 abbrev pub IsSameUpToFault : {V E F : Type 0} → Result V E → Result V F → Type 0

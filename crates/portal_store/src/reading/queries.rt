@@ -1,14 +1,17 @@
 //! Identifies the caller, and makes the view from cache and queries.
 
-ghost use Rattle.std.specs.Prelude.{◌≡◌, false, None};
+ghost use Rattle.std.specs.Prelude.{◌≡◌, ◌≤◌, false, length, IfErr, List, None};
+ghost use Rattle.sqlite.specs.Held.{state};
+ghost use Rattle.sqlite.specs.State.{HasCleanDisk};
 ghost use Rattle.portal_rules.specs.Good.{Good};
 ghost use Rattle.portal_rules.specs.View as seen;
 ghost use Rattle.portal_rules.specs.Words.{equals};
 ghost use Rattle.portal_rules.specs.declared.phase.Round.TheVariants.{Second};
 ghost use Rattle.portal_rules.specs.View.{sight_of, caller_among, OfficeCaller};
 ghost use Rattle.portal_rules.specs.View.{student_with};
+ghost use Rattle.portal_tables.specs.inner.Base.{Cells};
 ghost use Rattle.portal_tables.specs.inner.Queries as asked;
-ghost use Rattle.portal_tables.specs.Reads.{Always, MayRead, NoFault, Reads, ReadsOr, Gives};
+ghost use Rattle.portal_tables.specs.Reads.{Always, Blames, Gives, GivesOrFails, HasReason, MayRead, NoFault, Reads, ReadsOr};
 ghost use Rattle.portal_tables.specs.inner.Shown.{as_list};
 ghost use Rattle.portal_store.specs.World.{world_in, world_of};
 ghost use Rattle.portal_store.specs.Kept.{IsConsistent};
@@ -32,8 +35,9 @@ fn only_row<S: Alter>(
     query: Query<'_>,
 ) -> Result<Option<Row>, TableFault>
     ensures { Reads (asked.round_asked query.entry) S.Store Always
-        (Gives (λ db row. asked.QueryShows query.entry db.trees (as_list row)))
-        result conn.old conn.new }
+        (GivesOrFails (λ db row. asked.QueryShows query.entry db.trees (as_list row))
+        (λ db fault. Blames fault ((rows : List Cells) → asked.QueryShows query.entry db.trees rows
+        → length rows ≤ 1))) result conn.old conn.new }
 {
     let rows = read_rows(alloc, conn, query)?;
     at_most_one(rows)
@@ -155,10 +159,14 @@ pub fn view<S: Alter>(
     conn: &mut Connection<S>,
     code: &[u8],
 ) -> Result<View, KeepFault>
-    ensures { ReadsOr NoFault Second S.Store IsConsistent
+    ensures reads { ReadsOr NoFault Second S.Store IsConsistent
         (Gives (λ db view. Good (world_of db.trees)
         → view ≡ seen.view (world_of db.trees) code.now))
         result conn.old conn.new }
+    ensures reason { IsConsistent (state S.Store conn.old).now
+        → Good (world_of (state S.Store conn.old).now.trees) → HasCleanDisk (state S.Store conn.new)
+        → IfErr result (λ fault. fault ≡ KeepFault.Store
+        → HasReason (state S.Store conn.old) (state S.Store conn.new)) }
 {
     let mut cache = ViewCache::nothing();
     match show(alloc, conn, &mut cache, code) {

@@ -5,7 +5,7 @@ ghost use Rattle.sqlite.specs.Effect.{IsDatabase};
 ghost use Rattle.portal_rules.specs.declared.phase.Round.{Round as ThatRound};
 ghost use Rattle.portal_rules.specs.declared.phase.Round.TheVariants.{First, Second};
 ghost use Rattle.portal_rules.specs.World.{is_setup};
-ghost use Rattle.portal_tables.specs.Reads.{GivesOrFails, Blames, Reads, Gives};
+ghost use Rattle.portal_tables.specs.Reads.{GivesOrFails, Blames, Reads};
 ghost use Rattle.portal_store.specs.World as meant_by;
 ghost use Rattle.portal_store.specs.inner.Reading.{IsNow};
 ghost use Rattle.portal_store.specs.Kept.{HasSecond, HasGoodWorldIn};
@@ -57,7 +57,8 @@ pub(crate) fn current_round<S: Alter>(
     conn: &mut Connection<S>,
 ) -> Result<(Round, Office), TableFault>
     ensures { Reads Second S.Store IsDatabase
-        (Gives (λ db now. IsNow (meant_by.world_of db.trees) now.0 now.1))
+        (GivesOrFails (λ db now. IsNow (meant_by.world_of db.trees) now.0 now.1)
+        (λ db fault. (round : ThatRound) → Blames fault (HasGoodWorldIn round db.trees)))
         result conn.old conn.new }
 {
     let second = second_in(alloc, conn)?;
@@ -85,7 +86,9 @@ pub(crate) fn office_code<S: Alter>(
     conn: &mut Connection<S>,
 ) -> Result<Code, TableFault>
     ensures { Reads First S.Store IsDatabase
-        (Gives (λ db code. code ≡ (meant_by.world_of db.trees).office)) result conn.old conn.new }
+        (GivesOrFails (λ db code. code ≡ (meant_by.world_of db.trees).office)
+        (λ db fault. (round : ThatRound) → Blames fault (HasGoodWorldIn round db.trees)))
+        result conn.old conn.new }
 {
     let office = office_in(alloc, conn, VERSION)?;
     Ok(office.code)

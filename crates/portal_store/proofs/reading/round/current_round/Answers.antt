@@ -1,12 +1,19 @@
-use Rattle.portal_store.proofs.Base.{IsNow, Office, Round, cases_Bool, inl, inr, is_setup, reads_any, reads_both}
+use Rattle.portal_store.proofs.Fine.{office_code}
+use Rattle.portal_store.proofs.Base.{IsNow, Office, Round, cases_Bool, inl, inr, is_setup, reads_any, reads_both, version}
 use Rattle.portal_store.proofs.Base.{reads_handed, reads_more, reads_open, reads_then, state, subst, sym, world_of}
-use Rattle.portal_store.proofs.Rounds.{now_first, now_second}
+use Rattle.portal_store.proofs.Rounds.{now_first, now_second, tells_phase}
 use Rattle.portal_store.proofs.reading.round.current_round.Goals as goal
 
 pub returns-in_err-office : goal.returns-in_err-office
 returns-in_err-office g c =
     reads_handed c.from_residual-in_err-office.ensures.1
-    (reads_any (reads_then c.in_ok-second.ensures (reads_open (reads_both c.in_err-office.ensures)))) (λ own sound told. tt)
+    (reads_any (reads_then c.in_ok-second.ensures (reads_open (reads_both c.in_err-office.ensures))))
+    (λ own sound told round damaged stands. told.1 stands.office damaged (office_code round version _ stands.office stands.good))
+
+pub returns-in_err-second : goal.returns-in_err-second
+returns-in_err-second g c =
+    reads_handed c.from_residual.ensures.1 (reads_any c.in_err-second.ensures)
+    (λ own sound told round damaged stands. let it = tells_phase round _ stands.second in told it.0 damaged it.1)
 
 pub returns : goal.returns
 returns g c =

@@ -1,5 +1,12 @@
-use Rattle.portal_store.proofs.Base.{◌∙◌, AreEntries, IfOk-weaker, IsCacheOf, ap, kept_world, reads_both, rules, subst}
+use Rattle.portal_store.proofs.Base.{◌∙◌, AreEntries, IsCacheOf, ap, kept_world, reads_both, rules, subst}
 use Rattle.portal_store.proofs.Base.{sym}
+use Rattle.portal_store.proofs.Base.{IsCleanStore, StoreState, state, ◌≡◌, Good, HasGoodWorldIn, MatchResult-weaker}
+use Rattle.std.specs.Prelude.{IfErr}
+use Rattle.portal_rules.specs.declared.keeper.KeepFault.TheVariants as keep
+use Rattle.portal_tables.specs.Reads.{HasReason}
+use Rattle.portal_tables.proofs.InTurn.{if_answered}
+use Rattle.portal_store.proofs.Rounds.{world_told}
+use Rattle.portal_store.proofs.Reasons.{counted_reason}
 use Rattle.portal_store.proofs.Ended.{told_if}
 use Rattle.portal_store.proofs.Keeps.{read_by}
 use Rattle.portal_store.proofs.store.Store.office_code.Goals as goal
@@ -27,7 +34,23 @@ returns g c =
       looks = record { uses = call.uses; same = read.same; counts = search rules };
       alive = call.alive;
       code = λ on. told_if _ code c.count_outcome.result told
-          (IfOk-weaker code _ _ (λ code is_code. is_code ∙ ap (λ s. (kept_world g.S.Store s).office) c.self.view_is)
-          (read.told (λ holds was. holds.1.sound) on));
+          (if_answered code _ _ _ (read.told (λ holds was. holds.1.sound) on)
+          (λ code is_code. is_code ∙ ap (λ s. (kept_world g.S.Store s).office) c.self.view_is));
+      reason = λ on good clean.
+          let was = subst (λ s. IsCleanStore g.S.Store s) (sym c.self.view_is) on in
+          let holds = (c.self.invariant.kept.ready was.0 was.1).holds in
+          let said = (reads_both c.office_code-code.ensures).told holds.1.current holds.1.sound clean in
+          let here = subst (λ s. Good (kept_world g.S.Store s)) (sym c.self.view_is) good in
+          subst (λ (s : StoreState g.row.S.Denot). IfErr c.count_outcome.result
+          (λ fault. fault ≡ keep.Store → HasReason (state g.S.Store s.conn) (state g.S.Store new))) c.self.view_is
+          (counted_reason (HasReason (state g.S.Store c.self.inside.conn) (state g.S.Store new)) code c.count_outcome.result _ (HasGoodWorldIn holds.0 (state g.S.Store c.self.inside.conn).now.trees)
+          (record {
+            office = holds.1.office;
+            second = holds.1.second;
+            whole = holds.1.whole;
+            good = subst Good (world_told holds.0 (state g.S.Store c.self.inside.conn).now.trees holds.1.second) here;
+          })
+          ((reads_both c.office_code-code.ensures).reason holds.1.current clean)
+          (MatchResult-weaker code said (λ v x. x) (λ fault no. no holds.0)) told c.count_outcome.ensures.other);
       store = record { own = search rules; lasts = call.stays_open };
     }
