@@ -36,7 +36,8 @@ pub within : (buffer : List ℕ) (f : Frame) → IsWithinLimits buffer f → IsW
 within buffer (frame.Request request used) limits = (limits.1, limits.2)
 within buffer _ limits = tt
 
-too_short : (n : ℕ) (rest : List ℕ) (short : length rest < n) (h : RequestHead) (why : RefusalContent) (b : Bool) (a : RequestContent) (after : List ℕ)
+too_short : (n : ℕ) (rest : List ℕ) (short : length rest < n) (h : RequestHead) (why : RefusalContent) (b : Bool)
+    (a : RequestContent) (after : List ℕ)
     → nat_le n (length rest) ≡ b
     → Whole a after ≡ (if b then Whole (asked_of h (take n rest)) (drop n rest) else Faulty why (is_head h.method)) → ⊥
 too_short n rest short h why true a after le e = omega (arith, short, leb-true n (length rest) le)

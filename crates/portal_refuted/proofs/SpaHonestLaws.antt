@@ -1,7 +1,9 @@
 -- Refutes wrong forms of the laws of stable matchings, each by an instance.
 use Rattle.spa_honest.proofs.Base.{◌≡◌, ◌≢◌, ◌≤◌, ◌<◌, inl, inr, ℕ, zero, suc, List, [], ◌∷◌, set, Option, Some, None, refl, arith}
-use Rattle.spa_honest.proofs.Base.{A, Letter, Spa, IsLawful, IsMatching, IsStable, IsBest, IsAsGood, IsAcceptable, Blocks, HasRoom, ranked_of}
-use Rattle.spa_honest.proofs.Base.{choices_of, project_of, lecturer_of, at_project, at_lecturer, capacity_of, limit_of, DifferInLists, first_with}
+use Rattle.spa_honest.proofs.Base.{A, Letter, Spa, IsLawful, IsMatching, IsStable, IsBest, IsAsGood, IsAcceptable}
+use Rattle.spa_honest.proofs.Base.{Blocks, HasRoom, ranked_of}
+use Rattle.spa_honest.proofs.Base.{choices_of, project_of, lecturer_of, at_project, at_lecturer, capacity_of}
+use Rattle.spa_honest.proofs.Base.{limit_of, DifferInLists, first_with}
 use Rattle.spa_honest.proofs.Base.{ann, cem, bells, kites, tides}
 use Rattle.spa_honest.proofs.Base.{ranking_of, eqb, ne_eqb, false, IsWith, IsBefore}
 use Rattle.std.specs.Prelude.{codes}

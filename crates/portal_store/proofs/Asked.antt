@@ -61,7 +61,8 @@ of_judged fault (inl is) = subst IsOfRows (sym is) (λ no. no)
 of_judged fault (inr is) = subst IsOfRows (sym is) tt
 
 -- an error that is handed on as a refusal
-pub reads_said : {round : Round} {On : State → Type 0} {Right : Database → Type 0} {U D V : Type 0} {IsOf : D → Type 0} {T : Database → Result U D
+pub reads_said : {round : Round} {On : State → Type 0} {Right : Database → Type 0} {U D V : Type 0} {IsOf : D → Type 0}
+    {T : Database → Result U D
     → Type 0} {Told : Database → Result V OpenFault → Type 0} {e : D} {r : Result V OpenFault} {Said : OpenFault → Type 0} {a b : State}
     → IsErrAnd r Said
     → Reading round On Right IsOf T (Err e) a b → (HasRound round a.now.schema → Right a.now → T a.now (Err e) → (f : OpenFault) → Said f
@@ -234,7 +235,8 @@ module _
   }
 
 -- what a read tells of the tables that a look before it found
-pub told_before : {V E : Type 0} {IsOf : E → Type 0} {Right : Database → Type 0} {Told : Database → Result V E → Type 0} (r : Result V E) (a b c : State)
+pub told_before : {V E : Type 0} {IsOf : E → Type 0} {Right : Database → Type 0} {Told : Database → Result V E → Type 0}
+    (r : Result V E) (a b c : State)
     (P : Database → Type 0)
     → IsCommitted a → OnlyLooks a b
     → Reading First Anyhow Right IsOf Told r b c → HasCleanDisk c → HasFirstSchema a.now.schema → (IsTrue a.is_open → Right a.now)
@@ -247,7 +249,8 @@ told_before {Right = Right} {Told = Told} (Ok v) a b c P settled looks reads cle
 told_before (Err e) a b c P settled looks reads clean first right told = tt
 
 -- the same, of a fault too, if the connection was open between them
-pub judged_before : {V : Type 0} {IsOf : OpenFault → Type 0} {Right : Database → Type 0} {Told : Database → Result V OpenFault → Type 0} (r : Result V OpenFault)
+pub judged_before : {V : Type 0} {IsOf : OpenFault → Type 0} {Right : Database → Type 0}
+    {Told : Database → Result V OpenFault → Type 0} (r : Result V OpenFault)
     (a b c : State) (P : Database → Type 0)
     → IsCommitted a → OnlyLooks a b → IsTrue b.is_open
     → Reading First Anyhow Right IsOf Told r b c → HasCleanDisk c → HasFirstSchema a.now.schema → (IsTrue a.is_open → Right a.now)

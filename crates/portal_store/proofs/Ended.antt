@@ -7,7 +7,8 @@ use Rattle.portal_store.proofs.Base.{survives_then, survives_weaker, sym, Leaves
 use Rattle.portal_store.proofs.Base.{LeavesMade, IsSameUpToFault, IfOk}
 
 -- the tables are read, and then the change is made, or not
-pub ends_then : {round : Round} {Right : Database → Type 0} {U F V E : Type 0} {IsOf : F → Type 0} {Told : Database → Result U F → Type 0} {C D : Database
+pub ends_then : {round : Round} {Right : Database → Type 0} {U F V E : Type 0} {IsOf : F → Type 0}
+    {Told : Database → Result U F → Type 0} {C D : Database
     → Database → Type 0} {u : U} {r : Result V E} {old mid new : State}
     → Reading round Anyhow Right IsOf Told (Ok u) old mid → CommitsChange C r mid new
     → (IsCurrentSchema old.now.schema → HasCleanDisk mid → (after : Database) → C old.now after → D old.now after)
@@ -33,7 +34,8 @@ ends_then {C = C} {D = D} {r = r} {old} {mid} {new} reads then more =
     }
 
 -- the tables are read first, so that a change is one of an open connection
-pub leaves_then : {round : Round} {Right : Database → Type 0} {U F V E : Type 0} {IsOf : F → Type 0} {Told : Database → Result U F → Type 0} {C : Database
+pub leaves_then : {round : Round} {Right : Database → Type 0} {U F V E : Type 0} {IsOf : F → Type 0}
+    {Told : Database → Result U F → Type 0} {C : Database
     → Database → Type 0} (D : Database → Database → Type 0) {u : U} {r : Result V E} {old mid new : State}
     → Reading round Anyhow Right IsOf Told (Ok u) old mid → CommitsChange C r mid new
     → (IsCurrentSchema old.now.schema → HasCleanDisk mid → (after : Database) → C old.now after → D old.now after) → LeavesMade D old new
@@ -91,14 +93,16 @@ module _
     (err : HasCleanDisk new → IsTrue new.is_open → OnErr r (Stays mid new))
     (durable : HasCleanDisk new → OnOk r (LeavesOnly new))
     (crash : Survives mid new (IsAfter C mid)) where
-  pub ends_asked : {round : Round} {Right : Database → Type 0} {U F : Type 0} {IsOf : F → Type 0} {Told : Database → Result U F → Type 0} {u : U}
+  pub ends_asked : {round : Round} {Right : Database → Type 0} {U F : Type 0} {IsOf : F → Type 0}
+      {Told : Database → Result U F → Type 0} {u : U}
       → Reading round Anyhow Right IsOf Told (Ok u) old mid
       → (IsCurrentSchema old.now.schema → HasCleanDisk mid → (after : Database) → C old.now after → D old.now after)
       → CommitsChange D r old new
   ends_asked reads more = ends_then reads (ends_by C r mid new idle ok err durable crash) more
 
 -- the tables are read, and that or what comes of it is refused
-pub ends_refused : {round : Round} {Right : Database → Type 0} {U F V E : Type 0} {IsOf : F → Type 0} {Told : Database → Result U F → Type 0} {D : Database
+pub ends_refused : {round : Round} {Right : Database → Type 0} {U F V E : Type 0} {IsOf : F → Type 0}
+    {Told : Database → Result U F → Type 0} {D : Database
     → Database → Type 0} {x : Result U F} {r : Result V E} {old new : State}
     → IsErr r → IsCommitted old → Reading round Anyhow Right IsOf Told x old new → CommitsChange D r old new
 ends_refused {r = Ok v} is settled reads = absurd (cc)
@@ -116,7 +120,8 @@ ends_refused {U = U} {F} {x = x} {r = Err e} {old} {new} is settled reads = reco
     either (Err d) same err = err
 
 -- the tables are read, and there is nothing to do: what is open leaves what is committed alone
-pub ends_none : {round : Round} {Right : Database → Type 0} {U F V E : Type 0} {IsOf : F → Type 0} {Told : Database → Result U F → Type 0} {D : Database
+pub ends_none : {round : Round} {Right : Database → Type 0} {U F V E : Type 0} {IsOf : F → Type 0}
+    {Told : Database → Result U F → Type 0} {D : Database
     → Database → Type 0} {u : U} {v : V} {old new : State}
     → IsCommitted old → ((db : Trees) → IsTrue new.is_open → new.may_leave db → db ≡ new.committed.trees)
     → Reading round Anyhow Right IsOf Told (Ok u) old new → (IsCurrentSchema old.now.schema → HasCleanDisk new → D old.now old.now)

@@ -50,7 +50,8 @@ module _ {round : Round} {cache : ViewCache} {r : Result (Option Row) TableFault
   student_found lists few h = reads_as (its_own _ r) (reads_first h) (λ no. no) (λ own right told. MatchResult-weaker r told (λ o shown. (
     found (1 ∷ []) (has_text 3 code) roll_columns (student_stored round a.now.trees) (student_from round a.now.trees)
         (λ (s : Student). equals s.row.code code) (student_is round a.now.trees) (a.now.trees student_tree) (as_list o)
-        (all_weaker IsStudentRow (λ r. has_text 3 code r ≡ equals (bytes (column r 3)) code) (student_agrees code) (a.now.trees student_tree)
+        (all_weaker IsStudentRow (λ r. has_text 3 code r ≡ equals (bytes (column r 3)) code) (student_agrees code)
+        (a.now.trees student_tree)
         (student_rows_formed a.now right.0.own right.0.sound right.0.apart.1.1.1.0)) (lists o shown) o refl
         ∙ ap (find (λ (s : Student). equals s.row.code code)) (sym (students_by_key round a.now.trees)),
     lists o shown,

@@ -1,7 +1,8 @@
 -- Consistent tables of a good world are never refused when a view is read.
 use Rattle.portal_store.proofs.Base.{◌≡◌, ◌≤◌, ◌||◌, ◌∷◌, ◌++◌, Bool, true, false, cond, ℕ, List, [], map, filter, length, arith}
 use Rattle.portal_store.proofs.Base.{refl, sym, ap, subst, ◌∙◌, cases_Bool, inl, inr, AllByRecursion, all_map, all_unmap, all_weaker}
-use Rattle.portal_store.proofs.Base.{all_two, all_permuted, all-filter, permutes, is_sym, is_same, has, equals, Key, Row, column, bytes, Database}
+use Rattle.portal_store.proofs.Base.{all_two, all_permuted, all-filter, permutes, is_sym, is_same, has, equals, Key}
+use Rattle.portal_store.proofs.Base.{Row, column, bytes, Database}
 use Rattle.portal_store.proofs.Base.{Round, First, Second, Good, Lecturer, Student, IsConsistentIn, world_in, Whole}
 use Rattle.portal_store.proofs.Base.{by_key, row_key, lecturer_tree, student_tree, lecturers_shown, projects_shown}
 use Rattle.portal_store.proofs.Base.{students_shown, shown_project, shown_student, lecturer_columns, roll_columns}
@@ -70,7 +71,8 @@ abbrev code_at : Row → Key
 code_at r = bytes (column r 3)
 
 -- the rows of one code, where the codes of all rows are distinct in the order of keys
-one_code : (code : Key) (show : Row → Row) (table shown : List Row) → AllByRecursion (λ r. has_text 3 code r ≡ equals (code_at r) code) table
+one_code : (code : Key) (show : Row → Row) (table shown : List Row) → AllByRecursion
+    (λ r. has_text 3 code r ≡ equals (code_at r) code) table
     → AreDistinct (map code_at (by_key table)) → ListsBy (1 ∷ []) (has_text 3 code) show table shown → length shown ≤ 1
 one_code code show table shown agree apart lists =
     let test : Row → Bool = λ r. equals (code_at r) code in

@@ -126,10 +126,12 @@ pub reads_both : {On : State → Type 0} {Right : Database → Type 0} {V E : Ty
     → Reading First On Right IsStores Told r a b → Reading Second On Right IsStores Told r a b
 reads_both {a = a} h = reads_wide (current_own a.now.schema) h
 
-module _ {round : Round} {On : State → Type 0} {Right : Database → Type 0} {U D : Type 0} {IsOf : D → Type 0} {T : Database → Result U D → Type 0} where
+module _ {round : Round} {On : State → Type 0} {Right : Database → Type 0} {U D : Type 0} {IsOf : D → Type 0}
+    {T : Database → Result U D → Type 0} where
   -- the same read, where something else is made of its result: an error of each error, and none of
   -- the store of another one
-  pub reads_as : {V E : Type 0} {IsStores : E → Type 0} {Told : Database → Result V E → Type 0} {x : Result U D} {r : Result V E} {a b : State}
+  pub reads_as : {V E : Type 0} {IsStores : E → Type 0} {Told : Database → Result V E → Type 0} {x : Result U D} {r : Result V E}
+      {a b : State}
       → IfErr r (λ e. IsStores e → IsErrAnd x IsOf) → Reading round On Right IsOf T x a b → (IsErr x → IsErr r)
       → (HasRound round a.now.schema → Right a.now → T a.now x → Told a.now r) → Reading round On Right IsStores Told r a b
   reads_as {x = Ok u} {r = Ok v} same h fails so =

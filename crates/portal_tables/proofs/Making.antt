@@ -1,5 +1,6 @@
 -- The tables made, one after another.
-use Rattle.portal_tables.proofs.Base.{◌≡◌, ◌∷◌, ◌++◌, ◌+◌, ◌<◌, drop, take, take_more, get_or, length, Bor, ℕ, List, [], map, false, None, Result, Ok, Err, refl, sym, ap}
+use Rattle.portal_tables.proofs.Base.{◌≡◌, ◌∷◌, ◌++◌, ◌+◌, ◌<◌, drop, take, take_more, get_or, length, Bor, ℕ, List}
+use Rattle.portal_tables.proofs.Base.{[], map, false, None, Result, Ok, Err, refl, sym, ap}
 use Rattle.portal_tables.proofs.Base.{ap₂, subst, subst₂, ◌∙◌, ⊤, fold, AllByRecursion, AllZip, Table, Term, Schema}
 use Rattle.portal_tables.proofs.Base.{created, CreateTable, Tally, lacks_sequence, Database, understood, State, Writes}
 use Rattle.portal_tables.proofs.Base.{IsPlain, command_of, statement_of, runs_as, everything, zip-append, all-append}

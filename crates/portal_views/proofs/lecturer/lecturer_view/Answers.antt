@@ -25,14 +25,16 @@ returns-in_err-told g c =
 
 pub returns-in_err-person_at : goal.returns-in_err-person_at
 returns-in_err-person_at g c =
-    reads_rejected c.in_err-person_at.field-0.0 (λ its. c.in_err-person_at.ensures.store (ap Err its)) c.from_residual-in_err-person_at.ensures.1
+    reads_rejected c.in_err-person_at.field-0.0
+    (λ its. c.in_err-person_at.ensures.store (ap Err its)) c.from_residual-in_err-person_at.ensures.1
     (reads_then c.in_ok-own.ensures (reads_then
     (reads_of (λ own. own) (λ own tables. tables.sound) c.in_ok-ranking.ensures) c.in_ok-told.ensures))
     (λ own tables told damaged fine. c.in_err-person_at.ensures.damaged (ap Err damaged) fine.person)
 
 pub returns-in_err-capacity_at : goal.returns-in_err-capacity_at
 returns-in_err-capacity_at g c =
-    reads_rejected c.in_err-capacity_at.field-0.0 (λ its. c.in_err-capacity_at.ensures.store (ap Err its)) c.from_residual-in_err-capacity_at.ensures.1
+    reads_rejected c.in_err-capacity_at.field-0.0
+    (λ its. c.in_err-capacity_at.ensures.store (ap Err its)) c.from_residual-in_err-capacity_at.ensures.1
     (reads_then c.in_ok-own.ensures (reads_then
     (reads_of (λ own. own) (λ own tables. tables.sound) c.in_ok-ranking.ensures) c.in_ok-told.ensures))
     (λ own tables told damaged fine. c.in_err-capacity_at.ensures.damaged (ap Err damaged) fine.low fine.high)

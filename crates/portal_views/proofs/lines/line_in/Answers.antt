@@ -14,7 +14,8 @@ returns-in_err-lines g c =
 
 pub returns-in_err-line : goal.returns-in_err-line
 returns-in_err-line g c =
-    reads_rejected c.in_err-line.field-0.0 (λ its. c.in_err-line.ensures.store (ap Err its)) c.from_residual-in_err-line.ensures.1 (reads_first c.in_ok-lines.ensures.reads)
+    reads_rejected c.in_err-line.field-0.0 (λ its. c.in_err-line.ensures.store (ap Err its)) c.from_residual-in_err-line.ensures.1
+    (reads_first c.in_ok-lines.ensures.reads)
     (λ own tables told damaged known. c.in_err-line.ensures.damaged (ap Err damaged)
     (lines_once (state g.S.Store c.args.conn.now).now c.args.key.now tables known.1 c.in_ok-lines.lines.items told))
 

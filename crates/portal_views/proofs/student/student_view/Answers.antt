@@ -15,7 +15,8 @@ returns-in_err-place g c =
 
 pub returns-in_err-person_at : goal.returns-in_err-person_at
 returns-in_err-person_at g c =
-    reads_rejected c.in_err-person_at.field-0.0 (λ its. c.in_err-person_at.ensures.store (ap Err its)) c.from_residual-in_err-person_at.ensures.1
+    reads_rejected c.in_err-person_at.field-0.0
+    (λ its. c.in_err-person_at.ensures.store (ap Err its)) c.from_residual-in_err-person_at.ensures.1
     (reads_then (reads_open (reads_any c.in_ok-choices.ensures)) c.in_ok-place.ensures)
     (λ own sound told damaged fine. c.in_err-person_at.ensures.damaged (ap Err damaged) fine.person)
 

@@ -43,7 +43,8 @@ returns g c =
           let told = c.show-shown.ensures.told holds.1.current (holds, c.self.invariant.shown was) clean in
           subst (λ (s : StoreState g.row.S.Denot). IfErr c.count_outcome.result
           (λ fault. fault ≡ keep.Store → HasReason (state g.S.Store s.conn) (state g.S.Store new))) is
-          (counted_reason (HasReason (state g.S.Store c.self.inside.conn) (state g.S.Store new)) c.show-shown.result c.count_outcome.result _ _ (subst (λ s. Good (kept_world g.S.Store s)) (sym is) good)
+          (counted_reason (HasReason (state g.S.Store c.self.inside.conn) (state g.S.Store new)) c.show-shown.result
+          c.count_outcome.result _ _ (subst (λ s. Good (kept_world g.S.Store s)) (sym is) good)
           (c.show-shown.ensures.reason holds.1.current clean) told.1 c.count_outcome.ensures.same c.count_outcome.ensures.other);
       store = record { own = search rules; lasts = call.stays_open };
     }

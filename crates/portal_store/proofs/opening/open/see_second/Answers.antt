@@ -25,7 +25,8 @@ returns-else-is_setup-clause-reads g c =
     let db = (state g.S.Store c.args.conn.now).now.trees in
     let phase = c.in_ok-second_in.field-0 in
     let other = sym c.is_setup.ensures ∙ c.if-is_setup.false in
-    reads_as (unsaid _ _) (reads_then (reads_any c.in_ok-second_in.ensures) (reads_open (reads_both c.see_published.ensures.reads))) (λ no. no)
+    reads_as (unsaid _ _) (reads_then (reads_any c.in_ok-second_in.ensures) (reads_open (reads_both c.see_published.ensures.reads)))
+    (λ no. no)
     (λ own sound told. MatchResult-weaker c.see_published.result told.1 (λ _ first. one_told db phase (told.0 sound) other first)
     (λ fault. denies_more fault _ _ (λ s. stands_in Second db s (second_by db phase (told.0 sound) other))))
 

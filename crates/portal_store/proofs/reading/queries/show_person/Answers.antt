@@ -1,6 +1,8 @@
 use Rattle.portal_store.proofs.Readable.{lecturers_readable}
 use Rattle.portal_tables.proofs.InTurn.{its_own}
-use Rattle.portal_store.proofs.Base.{◌∙◌, if◌then◌else◌, First, Lecturer, OfficeCaller, Option, Round, ap, subst, Row, ListsBy, has_text, lecturer_columns, lecturer_tree, as_list, [], ◌∷◌, MatchResult-weaker}
+use Rattle.portal_store.proofs.Base.{◌∙◌, if◌then◌else◌, First, Lecturer, OfficeCaller, Option, Round, ap, subst, Row}
+use Rattle.portal_store.proofs.Base.{ListsBy, has_text, lecturer_columns, lecturer_tree, as_list, [], ◌∷◌}
+use Rattle.portal_store.proofs.Base.{MatchResult-weaker}
 use Rattle.portal_store.proofs.Base.{caller_among, catalogue, lecturer_from, lecturer_with, option_map, reads_as}
 use Rattle.portal_store.proofs.Base.{reads_handed, reads_more, reads_open, reads_then, reads_then_of, sight_of, state}
 use Rattle.portal_store.proofs.Base.{student_with, sym, world_in, LecturerSight, IsCatalogue}
@@ -19,7 +21,8 @@ pub returns-in_err-catalogue : goal.returns-in_err-catalogue
 returns-in_err-catalogue g c =
     let f = c.in_err-catalogue in
     reads_handed c.from_residual-in_err-catalogue.ensures.1
-    (reads_then (lecturer_found c.args.code.now (λ o shown. shown) (λ fault few. few) c.in_ok-row.ensures) f.ensures) (λ own right told. told.1)
+    (reads_then (lecturer_found c.args.code.now (λ o shown. shown) (λ fault few. few) c.in_ok-row.ensures) f.ensures)
+    (λ own right told. told.1)
 
 pub returns-in_err-lecturer_view : goal.returns-in_err-lecturer_view
 returns-in_err-lecturer_view g c =
@@ -40,7 +43,9 @@ returns-in_default g c =
     let r = c.show_student.result in
     let w = world_in c.args.round (state g.S.Store c.args.conn.now).now.trees in
     let code = c.args.code.now in
-    reads_as (its_own _ r) (reads_then (lecturer_found c.args.code.now (λ o shown. shown) (λ fault few. few) c.in_ok-row.ensures) (reads_open c.show_student.ensures))
+    reads_as (its_own _ r)
+    (reads_then (lecturer_found c.args.code.now (λ o shown. shown) (λ fault few. few) c.in_ok-row.ensures)
+    (reads_open c.show_student.ensures))
     (λ no. no)
     (λ own right told. (
       told.1.0,

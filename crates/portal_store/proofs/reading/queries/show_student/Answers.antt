@@ -1,5 +1,7 @@
 use Rattle.portal_store.proofs.Readable.{students_readable}
-use Rattle.portal_store.proofs.Base.{◌∙◌, None, Option, Student, ap, caller_among, option_map, reads_handed, reads_more, subst, Row, ListsBy, has_text, roll_columns, student_tree, as_list, [], ◌∷◌}
+use Rattle.portal_store.proofs.Base.{◌∙◌, None, Option, Student, ap, caller_among, option_map, reads_handed}
+use Rattle.portal_store.proofs.Base.{reads_more, subst, Row, ListsBy, has_text, roll_columns, student_tree, as_list}
+use Rattle.portal_store.proofs.Base.{[], ◌∷◌}
 use Rattle.portal_store.proofs.Base.{reads_then, reads_then_of, sight_of, state, student_from, sym, world_in}
 use Rattle.portal_store.proofs.Base.{StudentSight}
 use Rattle.portal_store.proofs.Queried.{student_told}
@@ -15,7 +17,8 @@ pub returns-in_err-catalogue : goal.returns-in_err-catalogue
 returns-in_err-catalogue g c =
     let f = c.in_err-catalogue in
     reads_handed c.from_residual-in_err-catalogue.ensures.1
-    (reads_then (student_found c.args.code.now (λ o shown. shown) (λ fault few. few) c.in_ok-row.ensures) f.ensures) (λ own right told. told.1)
+    (reads_then (student_found c.args.code.now (λ o shown. shown) (λ fault few. few) c.in_ok-row.ensures) f.ensures)
+    (λ own right told. told.1)
 
 pub returns-in_err-student_view : goal.returns-in_err-student_view
 returns-in_err-student_view g c =

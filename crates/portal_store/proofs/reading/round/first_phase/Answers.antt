@@ -11,5 +11,6 @@ returns-in_err-office g c =
 pub returns : goal.returns
 returns g c =
     let f = c.in_ok-office in
-    reads_more tt (reads_any f.ensures) (λ own sound row. first_phase (state g.S.Store c.args.conn.now).now.trees f.office.phase f.office.code
+    reads_more tt (reads_any f.ensures)
+    (λ own sound row. first_phase (state g.S.Store c.args.conn.now).now.trees f.office.phase f.office.code
     (row sound))

@@ -43,7 +43,8 @@ returns g c =
           let here = subst (λ s. Good (kept_world g.S.Store s)) (sym c.self.view_is) good in
           subst (λ (s : StoreState g.row.S.Denot). IfErr c.count_outcome.result
           (λ fault. fault ≡ keep.Store → HasReason (state g.S.Store s.conn) (state g.S.Store new))) c.self.view_is
-          (counted_reason (HasReason (state g.S.Store c.self.inside.conn) (state g.S.Store new)) code c.count_outcome.result _ (HasGoodWorldIn holds.0 (state g.S.Store c.self.inside.conn).now.trees)
+          (counted_reason (HasReason (state g.S.Store c.self.inside.conn) (state g.S.Store new)) code c.count_outcome.result _
+          (HasGoodWorldIn holds.0 (state g.S.Store c.self.inside.conn).now.trees)
           (record {
             office = holds.1.office;
             second = holds.1.second;

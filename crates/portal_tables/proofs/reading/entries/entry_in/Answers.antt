@@ -15,7 +15,8 @@ returns g c =
     let table = (state g.S.Store c.args.conn.now).now.trees (tree_of c.args.lists) in
     let key = c.in_ok-key.ensures.ok in
     let r = c.kept_entry.result in
-    reads_more (not_stores r c.kept_entry.ensures.store) (reads_then (reads_open (reads_of (λ own. own) (λ own sound. tt) c.in_ok-list.ensures)) c.in_ok-is_there.ensures.reads)
+    reads_more (not_stores r c.kept_entry.ensures.store)
+    (reads_then (reads_open (reads_of (λ own. own) (λ own sound. tt) c.in_ok-list.ensures)) c.in_ok-is_there.ensures.reads)
     (λ own sound told.
     let list = subst (λ k. IsListOf k table c.in_ok-list.list.items) key told.0 in
     let there = told.1 in

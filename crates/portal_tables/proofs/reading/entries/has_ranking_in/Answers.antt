@@ -7,7 +7,8 @@ pub returns-in_err-finds_any-in-Second-clause-reads : goal.returns-in_err-finds_
 returns-in_err-finds_any-in-Second-clause-reads g c =
     let failed = c.from_residual.ensures.0 in
     rw c.in-Second.is
-    (reads_as (converted c.from_residual.result _ c.from_residual.ensures.1) (reads_open (reads_of (λ own. own) (λ own sound. tt) c.in_err-finds_any-in-Second.ensures)) (λ _. failed)
+    (reads_as (converted c.from_residual.result _ c.from_residual.ensures.1)
+    (reads_open (reads_of (λ own. own) (λ own sound. tt) c.in_err-finds_any-in-Second.ensures)) (λ _. failed)
     (λ own sound told. IfOk-from_err c.from_residual.result _ failed))
 
 pub returns-in_ok-finds_any-in-Second-clause-reads : goal.returns-in_ok-finds_any-in-Second-clause-reads

@@ -30,7 +30,8 @@ returns-in_err-advance g c =
     (not_found g.S.Store c.args.sql.now (bound c.args.params.now) old mid new r c.from_residual-in_err-advance.ensures.0
     (leaves_stopped g.S.Store c.args.sql.now old mid way new moved.mode moved.survives r c.from_residual-in_err-advance.ensures.0 _
     c.in_err-advance.ensures.kept)
-    (λ plain clean. IsErrAnd-IfErr r _ _ c.from_residual-in_err-advance.ensures.1 (λ e is other. stops_after g.S.Store c.args.sql.now old mid
+    (λ plain clean. IsErrAnd-IfErr r _ _ c.from_residual-in_err-advance.ensures.1
+    (λ e is other. stops_after g.S.Store c.args.sql.now old mid
     way new moved.mode moved.survives (bound c.args.params.now) [] plain clean (way.given plain (clean_before _ _ _ moved.survives clean)) _
     (subst IsOtherError is other) c.in_err-advance.ensures.err)))
 
