@@ -100,7 +100,7 @@ change_that_is_left_out_is_no_transition old new was is changes =
 no_reason : (s : State) → IsTrue s.is_open → s.faults ≡ 0 → s.step_limit ≡ None → HasReason s s → ⊥
 no_reason s on none unlimited (inl more) = omega (arith, more, none)
 no_reason s on none unlimited (inr (inl shut)) = let clash : true ≡ false = sym on ∙ shut in cc
-no_reason s on none unlimited (inr (inr limit)) = subst IsSome unlimited limit
+no_reason s on none unlimited (inr (inr limit)) = let clash : false ≡ true = subst IsSome unlimited limit in cc
 
 -- ---- tables of which one is missing
 
@@ -351,14 +351,14 @@ module _ {S : Type 0} (g : Ghosts S) where
   disowned_store_does_not_stay old new was is stays = let clash : false ≡ true = sym is ∙ (stays.own ∙ was) in cc
 
   -- want of memory that is told as a fault of the store: nothing failed, and queries have no limit
-  pub memory_told_as_the_stores_fault_has_no_reason : {V : Type 0} (s : StoreState S) → IsCleanStore g s → Good (kept_world g s)
+  pub memory_told_as_the_stores_fault_has_no_reason : (V : Type 0) (s : StoreState S) → IsCleanStore g s → Good (kept_world g s)
       → HasDisk g s → (state g s.conn).faults ≡ 0 → (state g s.conn).step_limit ≡ None
       → HasStoreReason {V = V} g (Err keep.Store) s s → ⊥
-  memory_told_as_the_stores_fault_has_no_reason s clean good disk none unlimited reason =
+  memory_told_as_the_stores_fault_has_no_reason V s clean good disk none unlimited reason =
       no_reason (state g s.conn) clean.1 none unlimited (reason clean good disk refl)
 
-  pub memory_told_as_such_needs_none : {V : Type 0} (s : StoreState S) → HasStoreReason {V = V} g (Err keep.Memory) s s
-  memory_told_as_such_needs_none s clean good disk is = absurd (cc)
+  pub memory_told_as_such_needs_none : (V : Type 0) (s : StoreState S) → HasStoreReason {V = V} g (Err keep.Memory) s s
+  memory_told_as_such_needs_none V s clean good disk is = absurd (cc)
 
   pub change_answered_before_its_commit_is_not_committed : {A E : Type 0} (x : A) (change : Change)
       (old new : StoreState S) → IsTrue old.own → HasDisk g new
